@@ -1,5 +1,5 @@
 -- Message bytes: what a subscriber is due of a publication.
-use Rattle.std.specs.Prelude.{ℕ, Bool, true, false, List, [], ◌++◌, length, codes, decimal, Option, Some, None, if◌then◌else◌}
+use Rattle.std.specs.Prelude.{ℕ, Bool, true, false, ◌&&◌, List, [], ◌++◌, length, drop, codes, decimal, Option, Some, None, is_some, if◌then◌else◌}
 use Rattle.line_fields.specs.LineEnd.{line_end}
 use Rattle.subj.specs.Messages.{Content, body_bytes}
 
@@ -71,3 +71,28 @@ headed_or plain (Some headed) = headed
 
 abbrev pub form_for : LineForms → Bool → LineParts
 form_for forms option = if option then forms.headed else forms.plain
+
+-- ---- the message in two parts
+
+-- up to the sid and with it, as it is in front of a header block; its first byte is left out in front of none
+abbrev pub head_bytes : List ℕ → List ℕ → List ℕ
+head_bytes subject sid = codes "HMSG " ++ (subject ++ (codes " " ++ sid))
+
+-- behind the sid; the same for all subscribers of one option
+abbrev pub tail_bytes : Content → Bool → List ℕ
+tail_bytes content option = behind_sid content (headers_due content option) ++ (line_end ++ (due_body content option ++ line_end))
+
+-- what stands behind the sid in both forms, and whether the message has a header block
+pub record Tails : Type 0 where
+  pub plain : List ℕ
+  pub headed : List ℕ
+  pub has_block : Bool
+
+abbrev pub tails_of : Content → Tails
+tails_of content = record { plain = tail_bytes content false; headed = tail_bytes content true; has_block = is_some content.headers }
+
+abbrev pub tail_for : Tails → Bool → List ℕ
+tail_for tails option = if option then tails.headed else tails.plain
+
+abbrev pub head_for : Tails → List ℕ → Bool → List ℕ
+head_for tails head option = if option && tails.has_block then head else drop 1 head

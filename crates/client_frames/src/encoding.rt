@@ -19,9 +19,9 @@ use subj::{MAX_PAYLOAD, MAX_SID, MAX_SUBJECT, Message, Sid};
 
 const MSG: &[u8] = b"MSG ";
 
-const HMSG: &[u8] = b"HMSG ";
+pub(crate) const HMSG: &[u8] = b"HMSG ";
 
-const BLANK: &[u8] = b" ";
+pub(crate) const BLANK: &[u8] = b" ";
 
 /// The most digits of a number of 64 bits.
 const MAX_DIGITS: usize = 20;
@@ -30,7 +30,7 @@ const MAX_DIGITS: usize = 20;
 const MAX_BEFORE: usize = 5 + MAX_SUBJECT + 1;
 
 /// The most bytes behind the subscription id in the line of a message, with the blank between.
-const MAX_BEHIND: usize = 1 + MAX_SUBJECT + 1 + MAX_DIGITS + 1 + MAX_DIGITS;
+pub(crate) const MAX_BEHIND: usize = 1 + MAX_SUBJECT + 1 + MAX_DIGITS + 1 + MAX_DIGITS;
 
 /// The most bytes of the line of a message, without its CR LF.
 pub const MAX_MESSAGE_LINE: usize = MAX_BEFORE + MAX_SID + MAX_BEHIND;
@@ -54,7 +54,7 @@ fn before_sid(alloc: Global, operation: &[u8], message: &Message) -> Result<Vec<
 
 /// Appends a number in digits.
 #[inline(always)]
-fn append_number(number: usize, text: &mut Vec<u8>) -> Result<(), AllocError>
+pub(crate) fn append_number(number: usize, text: &mut Vec<u8>) -> Result<(), AllocError>
     ensures same { OnOk result (text.new.items ≡ text.old.items ++ decimal number) }
     ensures fits { OnOk result (length text.new.items ≤ length text.old.items + MAX_DIGITS) }
 {
@@ -65,7 +65,7 @@ fn append_number(number: usize, text: &mut Vec<u8>) -> Result<(), AllocError>
 
 /// Appends the blank behind the subscription id, and the reply of a message with the blank behind it.
 #[inline(always)]
-fn append_reply(message: &Message, text: &mut Vec<u8>) -> Result<(), AllocError>
+pub(crate) fn append_reply(message: &Message, text: &mut Vec<u8>) -> Result<(), AllocError>
     ensures same { OnOk result (text.new.items ≡ text.old.items ++ (codes " " ++ reply_field message.now.reply)) }
     ensures fits { OnOk result (length text.new.items ≤ length text.old.items + 1 + MAX_SUBJECT + 1) }
 {

@@ -9,7 +9,7 @@
 //! ```
 //!
 //! In reading order: `decoding` reads a line, as a `client_line` or one of the `faults`; `err_texts` says what is told of these.
-//! `server_frames` are what is sent, which `server_info`, `info` and `encoding` write.
+//! `server_frames` are what is sent, which `server_info`, `info`, `encoding` and `message_parts` write.
 #![tactic(auto)]
 
 mod client_line;
@@ -19,6 +19,7 @@ mod err_texts;
 mod faults;
 mod info;
 mod laws;
+mod message_parts;
 mod server_frames;
 mod server_info;
 
@@ -31,5 +32,6 @@ pub use err_texts::ErrText;
 pub use faults::LineFault;
 pub use info::{InfoData, info_text};
 pub use laws::{line_has_one_meaning, stream_is_read_in_parts};
+pub use message_parts::{MAX_HEAD, MAX_TAIL, MessageTails, message_head};
 pub use server_frames::{Delivery, ReplyFrame, ServerFrame};
 pub use server_info::ServerInfo;

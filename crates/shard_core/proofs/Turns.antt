@@ -2,3 +2,5 @@
 pub mod TallySteps
 pub mod Claims
 pub mod Groups
+pub mod Notes
+pub mod Received

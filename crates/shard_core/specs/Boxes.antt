@@ -47,6 +47,10 @@ abbrev pub IsStagedWithin : List ℕ → List Conn → Type 0
 IsStagedWithin places conns =
     (i : ℕ) (d : Conn) → i < length conns → list_any (nat_eq i) places ≡ false → client_in_view next_backlog (slice_index_or conns i d) ≡ client_in_view shown_backlog (slice_index_or conns i d)
 
+-- the same places, in whatever order and how often
+abbrev pub AreAlike : List ℕ → List ℕ → Type 0
+AreAlike places others = (i : ℕ) → list_any (nat_eq i) places ≡ list_any (nat_eq i) others
+
 pub record AreConns (places : List ℕ) (conns : List Conn) : Type 0 where
   pub rising : AreRising conns
   pub staged : IsStagedWithin places conns

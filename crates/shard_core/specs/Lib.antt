@@ -32,6 +32,12 @@ pub mod EntryBytes
 pub mod Opened
 -- what is noted of the members of queue groups that match a subject, so that one look serves all queue names of a job
 pub mod Members
+-- an open subscription that receives a subject, with what a delivery needs of it
+pub mod Received
+-- what is noted of a subject, and that it holds
+pub mod Notes
+-- a delivery to a receiver that is noted
+pub mod ReceiverSteps
 -- closed examples: what a shard does, by hand
 pub mod Examples
 -- the limits of what waits for a connection: each connection has those of the router

@@ -7,8 +7,8 @@ use Rattle.shard_core.specs.Shards.{State}
 use Rattle.subj.specs.Keys.{opening}
 use Rattle.shard_core.specs.Closings.{serials_of, is_left, closings_of}
 use Rattle.shard_core.specs.Owed.{sub_with_count}
-use Rattle.shard_core.specs.Members.{AreNoted}
-use Rattle.shard_core.specs.declared.members.Members.{Members}
+use Rattle.shard_core.specs.Notes.{HoldNotes}
+use Rattle.shard_core.specs.declared.notes.Notes.{Notes}
 
 -- the open subscriptions in order of opening, and the openings and closings not told yet, in order
 pub record Opened : Type 0 where
@@ -62,8 +62,8 @@ all_told o = record o { deltas = [] }
 
 -- ---- what the fields keep
 
-pub record IsOpened (subs : List Subscription) (deltas : List Delta) (capacity : ℕ) (members : Members) : Type 0 where
+pub record IsOpened (subs : List Subscription) (deltas : List Delta) (capacity : ℕ) (notes : Notes) : Type 0 where
   pub rising : AreRising subs
-  pub noted : AreNoted subs members
+  pub noted : HoldNotes subs notes
   -- a place for the closing delta of each open subscription
   pub places : length deltas + length subs ≤ capacity

@@ -22,8 +22,11 @@ abbrev pub is_publisher : Option ℕ → ℕ → Bool
 is_publisher None conn = false
 is_publisher (Some publisher) conn = nat_eq publisher conn
 
+abbrev pub may_get_at : Job → ℕ → Bool
+may_get_at job conn = job.echo || not (is_publisher job.publisher conn)
+
 abbrev pub is_permitted : Job → Subscription → Bool
-is_permitted job sub = job.echo || not (is_publisher job.publisher sub.conn)
+is_permitted job sub = may_get_at job sub.conn
 
 abbrev pub is_wanted : Job → Subscription → Bool
 is_wanted job sub = gets job.message.subject sub && is_permitted job sub

@@ -1,11 +1,11 @@
 //! Connections, and what waits for them.
 
-ghost use Rattle.std.specs.List.{list_all};
+ghost use Rattle.std.specs.List.{list_all, list_any};
 ghost use Rattle.sub_table.specs.Subscriptions.{is_room, matching_of};
-ghost use Rattle.shard_core.specs.Boxes.{room_left, AreRising, AreConns, IsSettled, IsSettledAt, on_both, on_shown, client_in_view, shown_backlog, next_backlog, number_of, HasRoomAt, IsBoxStaged, IsOpenAt, IsSeated, IsSeatOf, IsStanding, form_length, standing_of};
-ghost use Rattle.std.specs.Prelude.{map, filter, not, nat_le, ◌&&◌, ◌≡◌, ◌==◌, ◌≤◌, ◌+◌, ◌-◌, ◌<◌, ◌^◌, ◌++◌, ◌∷◌, [], true, false, position, take, length, All, IsTrue, IfOk, IfSome, OnOk, OnErr, None, Some};
+ghost use Rattle.shard_core.specs.Boxes.{room_left, AreRising, AreConns, IsSettled, IsSettledAt, on_both, on_shown, client_in_view, shown_backlog, next_backlog, number_of, HasRoomAt, IsBoxStaged, IsOpenAt, IsSeated, IsSeatOf, IsStanding, AreAlike, form_length, standing_of};
+ghost use Rattle.std.specs.Prelude.{map, filter, not, nat_eq, nat_le, ◌&&◌, ◌≡◌, ◌==◌, ◌≤◌, ◌+◌, ◌-◌, ◌<◌, ◌^◌, ◌++◌, ◌∷◌, [], true, false, position, take, length, All, IsTrue, IfOk, IfSome, OnOk, OnErr, None, Some};
 ghost use Rattle.std.specs.Option.{option_map, option_copied};
-ghost use Rattle.outbox.specs.Views.{has_room, with_entry, with_last, without_first, size_of, reply_entry, message_entry, bytes_of_all};
+ghost use Rattle.outbox.specs.Views.{has_room, with_entry, with_last, without_first, size_of, reply_entry, message_entry, spelt_entry, bytes_of_all};
 ghost use Rattle.shard_core.specs.Shards.{is_open as opened, is_known as known, client_at, clients_with_change, clients_with_headers, takes_headers as headers_taken, without_client, fits, fits_len, waits_for};
 ghost use Rattle.shard_core.specs.Dirty.{AreKept, AreTold, AreToldBut, IsToldAt};
 ghost use Rattle.shard_core.specs.ShardSteps.{new_client};
@@ -254,12 +254,46 @@ fn room_of(outbox: &Outbox) -> Room
     }
 }
 
-/// Notes that something is staged for the connection that stands there.
+/// Whether the place is the last one of these.
+fn is_last(places: &Vec<usize>, place: usize) -> bool
+    ensures { result ≡ true → list_any (nat_eq place) places.now.items ≡ true }
+{
+    if places.is_empty() {
+        return false;
+    }
+    places[places.len() - 1] == place
+}
+
+/// Notes that something is staged for the connection that stands there: once, where as much goes there in a row.
 fn note_staged(places: &mut Vec<usize>, seat: Seat) -> Result<(), AllocError>
-    ensures ok { OnOk result (places.new.items ≡ places.old.items ++ seat.place ∷ []) }
+    ensures ok { OnOk result (AreAlike places.new.items (places.old.items ++ seat.place ∷ [])) }
     ensures err { OnErr result (places.new.items ≡ places.old.items) }
 {
+    if is_last(places, seat.place) {
+        return Ok(());
+    }
     places.push(seat.place)?;
+    Ok(())
+}
+
+/// Stages a message of two parts for the connection at the place, which has room for it.
+fn stage_parts_at(
+    conns: &mut Vec<Conn>,
+    place: usize,
+    id: PubId,
+    sub: SubId,
+    mode: Mode,
+    head: &[u8],
+    tail: &[u8],
+) -> Result<(), AllocError>
+    requires within { place < length conns.old.items }
+    requires fits { length head.now + length tail.now < 2 ^ 64 }
+    requires room { HasRoomAt place (length (spelt_entry id sub mode (head.now ++ tail.now)).bytes) conns.old.items }
+    ensures ok { OnOk result (IsBoxStaged place (with_entry (spelt_entry id sub mode (head.now ++ tail.now))) conns.old.items conns.new.items) }
+    ensures err { OnErr result (IsBoxStaged place (λ backlog. backlog) conns.old.items conns.new.items) }
+{
+    let conn = &mut conns[place];
+    conn.outbox.stage_parts(id, sub, mode, head, tail)?;
     Ok(())
 }
 
@@ -389,8 +423,14 @@ impl Conns {
         }
     }
 
-    /// Where the next entry is staged, if it goes the way of the last ones.
-    fn near(&self) -> usize {
+    /// Where the connection may stand: where the last entry was staged, or else where the next one is, if it goes the way of those
+    /// before the last commit.
+    fn near(&self, conn: ConnId) -> usize {
+        if let Some(place) = self.places.last() {
+            if is_at(&self.conns, *place, conn.get()) {
+                return *place;
+            }
+        }
         self.last_places
             .get(self.places.len())
             .copied()
@@ -402,14 +442,14 @@ impl Conns {
         ensures none { result ≡ None → client_at conn self.now.next ≡ None }
         ensures some { IfSome result (λ seat. IsSeatOf conn seat self.now.next) }
     {
-        seat_in(&self.conns, self.near(), conn)
+        seat_in(&self.conns, self.near(conn), conn)
     }
 
     /// How the connection stands to an entry of so many bytes in the form that it is due, behind all that was put or staged.
     pub fn standing(&self, conn: ConnId, lengths: FormLengths) -> Standing
         ensures { IsStanding result conn lengths self.now.next }
     {
-        standing_in(&self.conns, self.near(), conn, lengths)
+        standing_in(&self.conns, self.near(conn), conn, lengths)
     }
 
     /// Whether each connection has room for the messages to all its open subscriptions that get the subject. In the form that the
@@ -459,6 +499,30 @@ impl Conns {
         let place = seat.place;
         note_staged(&mut self.places, seat)?;
         stage_message_at(&mut self.conns, place, id, sub, mode, line, body)?;
+        Ok(())
+    }
+
+    /// Puts a message, for which there is room, unseen: its bytes in two parts, up to the id of the subscription and with it, and
+    /// behind that. Want of memory leaves all as it was.
+    pub fn stage_parts(
+        &mut self,
+        seat: Seat,
+        id: PubId,
+        sub: SubId,
+        mode: Mode,
+        head: &[u8],
+        tail: &[u8],
+    ) -> Result<(), AllocError>
+        requires seat { IsSeated seat self.old.next }
+        requires fits { length head.now + length tail.now < 2 ^ 64 }
+        requires room { IsTrue (fits (client_at seat.conn self.old.next) (spelt_entry id sub mode (head.now ++ tail.now))) }
+        ensures shown { self.new.shown ≡ self.old.shown }
+        ensures ok { OnOk result (self.new.next ≡ clients_with_change (with_entry (spelt_entry id sub mode (head.now ++ tail.now))) seat.conn self.old.next) }
+        ensures err { OnErr result (self.new.next ≡ self.old.next) }
+    {
+        let place = seat.place;
+        note_staged(&mut self.places, seat)?;
+        stage_parts_at(&mut self.conns, place, id, sub, mode, head, tail)?;
         Ok(())
     }
 

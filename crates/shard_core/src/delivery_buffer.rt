@@ -7,16 +7,18 @@ ghost use Rattle.shard_core.specs.Boxes.{IsSeatOf, IsSettled, form_length};
 ghost use Rattle.shard_core.specs.Closings.{ended_ids};
 ghost use Rattle.shard_core.specs.Dirty.{AreTold};
 ghost use Rattle.shard_core.specs.Opened.{AreRising, AreApart};
-ghost use Rattle.shard_core.specs.Owed.{is_due, is_permitted, due_entry as entry_due, placed_for, mode_of, walk_after_put, walk, reaches, slow_consumer};
+ghost use Rattle.shard_core.specs.Owed.{is_due, is_permitted, may_get_at as is_permitted_at, due_entry as entry_due, placed_for, mode_of, walk_after_put, walk, reaches, slow_consumer};
 ghost use Rattle.shard_core.specs.Shards.{State, is_open as opened, clients_with_change, client_at, fits};
 ghost use Rattle.shard_core.specs.Puts.{put_line};
+ghost use Rattle.shard_core.specs.ReceiverSteps.{with_noted};
 ghost use Rattle.shard_core.specs.Tallies.{lent_subs, is_placed, Follows, HasPlaced, IsStaged, none_tallied, with_given, with_shut, with_lines, put_if_due as put_matching, walk_matching};
 
 use crate::calls::{Begun, Placed};
 use crate::connections::{Conns, FormLengths, Seat, Standing};
 use crate::dirty_conns::DirtyConns;
 use crate::openings::Openings;
-use client_frames::{ErrText, MessageLines, message_body, message_len};
+use crate::receiver_walk::walk_receivers;
+use client_frames::{ErrText, MessageLines, MessageTails, message_body, message_len};
 use outbox::{Entry, Mode};
 use std::alloc::{AllocError, Global};
 use std::marker::Model;
@@ -24,11 +26,18 @@ use std::mem;
 use sub_table::{SubTable, Subscription};
 use subj::{ConnId, Job, Message, SubId};
 
-/// Whether the subscription may get the job: not where it is the publisher's own, without echo.
+/// Whether the subscriptions of the connection may get the job: not where they are the publisher's own, without echo.
+pub fn may_get_at(job: &Job, conn: ConnId) -> bool
+    ensures { result ≡ is_permitted_at job.now conn }
+{
+    job.echo || job.publisher != Some(conn)
+}
+
+/// Whether the subscription may get the job.
 pub fn may_get(job: &Job, sub: &Subscription) -> bool
     ensures { result ≡ is_permitted job.now sub.now }
 {
-    job.echo || job.publisher != Some(sub.conn)
+    may_get_at(job, sub.conn)
 }
 
 /// Whether Begin places the job for the subscription, of those that match.
@@ -235,6 +244,24 @@ impl DeliveryBuffer {
         self.ended.clear();
     }
 
+    /// The shard that walks.
+    pub(crate) fn shard(&self) -> u64
+        ensures { result ≡ self.now.shard }
+    {
+        self.shard
+    }
+
+    /// Notes that the subscription of this serial is given an entry, of which no copy is asked for, and whether it closes with it.
+    pub(crate) fn note_given(&mut self, serial: u64, ends: bool) -> Result<(), AllocError>
+        ensures { OnOk result (self.new ≡ with_noted serial ends self.old) }
+    {
+        self.given.push(serial)?;
+        if ends {
+            self.ended.push(serial)?;
+        }
+        Ok(())
+    }
+
     /// Notes who is given an entry.
     fn note(
         &mut self,
@@ -277,7 +304,7 @@ impl DeliveryBuffer {
     }
 
     /// Shuts a connection that has no room, unseen; all its subscriptions are to close.
-    fn shut<T: SubTable>(
+    pub(crate) fn shut<T: SubTable>(
         &mut self,
         conns: &mut Conns,
         openings: &Openings<T>,
@@ -424,12 +451,39 @@ impl DeliveryBuffer {
     }
 }
 
+/// Messages with more bytes than these behind their lines are not spelt by parts: their payloads are shared, or their bytes are the cost.
+const SHORT_BODY: usize = 2_048;
+
+/// The whole walk of a job, unseen: over the receivers of its subject where they are noted, its messages are short, and no copies are
+/// asked for.
+fn walk_any<T: SubTable>(
+    buffer: &mut DeliveryBuffer,
+    tails: &mut MessageTails,
+    conns: &mut Conns,
+    openings: &Openings<T>,
+    job: &Job,
+) -> Result<(), AllocError>
+    requires { All (λ sub. sub.delivered + 1 < 2 ^ 64) openings.now.subs }
+    ensures shown { conns.new.shown ≡ conns.old.shown }
+    ensures rising { OnOk result (AreRising openings.now.subs) }
+    ensures ok { OnOk result (Follows openings.now.subs job.now (λ s w. walk s job.now (filter (is_due job.now) s.subs) w) conns.old.next buffer.old conns.new.next buffer.new) }
+{
+    if buffer.copies || job.message.whole().len() > SHORT_BODY {
+        return buffer.walk(conns, openings, job);
+    }
+    match openings.receivers(job.message.subject()) {
+        None => buffer.walk(conns, openings, job),
+        Some(receivers) => walk_receivers(buffer, conns, openings, job, tails, receivers),
+    }
+}
+
 /// Places a job for the subscriptions that it is due to, shows what was placed, and notes for whom it is; counts, and closes those
 /// that have come to their maximum and those of the connections that were shut. Want of memory leaves all
 /// as it was.
 #[tactic(auto, using(crate::proofs::Clients::Told::nothing_put))]
 pub fn place_all<T: SubTable>(
     buffer: &mut DeliveryBuffer,
+    tails: &mut MessageTails,
     conns: &mut Conns,
     dirty_conns: &mut DirtyConns,
     openings: &mut Openings<T>,
@@ -443,7 +497,7 @@ pub fn place_all<T: SubTable>(
     ensures told { AreTold conns.old.shown conns.new.shown dirty_conns.old dirty_conns.new }
 {
     openings.remember(job.message.subject());
-    let Ok(ended) = stage(buffer, conns, openings, job) else {
+    let Ok(ended) = stage(buffer, tails, conns, openings, job) else {
         conns.rollback();
         return Err(AllocError);
     };
@@ -463,6 +517,7 @@ pub fn place_all<T: SubTable>(
 /// The whole walk of a job, unseen, and the names of those that close.
 fn stage<T: SubTable>(
     buffer: &mut DeliveryBuffer,
+    tails: &mut MessageTails,
     conns: &mut Conns,
     openings: &Openings<T>,
     job: &Job,
@@ -476,7 +531,7 @@ fn stage<T: SubTable>(
     ensures given_apart { IfOk result (λ ended. AreApart buffer.new.given) }
     ensures ended_apart { IfOk result (λ ended. AreApart buffer.new.ended) }
 {
-    buffer.walk(conns, openings, job)?;
+    walk_any(buffer, tails, conns, openings, job)?;
     if buffer.closes_nothing() {
         return Ok(Vec::new(buffer.alloc));
     }

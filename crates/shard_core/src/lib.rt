@@ -10,7 +10,8 @@
 //! ```
 //!
 //! In reading order: `shard` has the calls, `calls` their answers, and `shard/refusals` why they are refused; `connections` keeps the
-//! outboxes, `openings` the open subscriptions; `delivery_buffer` is what Begin places, `queue_claim` with `members` the choice of one member.
+//! outboxes, `openings` the open subscriptions; `delivery_buffer` is what Begin places, by
+//! `receiver_walk` where who receives the subject is noted (`receivers`); `queue_claim` with `members` is the choice of one member.
 #![tactic(auto)]
 
 mod calls;
@@ -21,8 +22,12 @@ mod examples;
 mod faults;
 mod laws;
 mod members;
+mod notes;
 mod openings;
 mod queue_claim;
+mod receiver;
+mod receiver_walk;
+mod receivers;
 mod shard;
 
 pub use calls::{BeginFault, Begun, Candidate, Closed, Placed, Subscribed};

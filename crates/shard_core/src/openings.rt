@@ -1,14 +1,17 @@
 //! Open subscriptions, and the openings and closings that the hub was not told of yet.
 
-ghost use Rattle.std.specs.Prelude.{◌≡◌, ◌+◌, ◌≤◌, [], ◌∷◌, filter, length, vec_capacity, IfOk, OnOk, OnErr};
+ghost use Rattle.std.specs.Prelude.{◌≡◌, ◌+◌, ◌≤◌, [], ◌∷◌, filter, length, vec_capacity, IfOk, IfSome, OnOk, OnErr};
 ghost use Rattle.std.specs.Option.{option_copied};
 ghost use Rattle.sub_table.specs.Subscriptions.{gets, with_max};
 ghost use Rattle.shard_core.specs.Members.{found_at as at_mark, found_of, is_in_group_of};
+ghost use Rattle.shard_core.specs.Received.{receivers_of};
 ghost use Rattle.shard_core.specs.Tallies.{lent_subs};
 ghost use Rattle.shard_core.specs.Closings.{left_of};
 ghost use Rattle.shard_core.specs.Opened.{AreRising, AreApart, IsNext, CanCount, CanCountEach, none_opened, with_opening, with_counts, with_closings, all_told};
 
-use crate::members::{Member, Members, mark_of};
+use crate::members::{Member, mark_of};
+use crate::notes::Notes;
+use crate::receiver::Receiver;
 use std::alloc::{AllocError, Global};
 use std::marker::Model;
 use sub_table::{SubTable, Subscription};
@@ -37,8 +40,8 @@ pub struct Openings<T: SubTable> {
     alloc: Global,
     table: T,
     deltas: Vec<Delta>,
-    /// What is noted of the members of queue groups, for the claims of one job.
-    members: Members,
+    /// What is noted of a subject.
+    notes: Notes,
 }
 
 impl<T: SubTable> Model for Openings<T> {
@@ -50,7 +53,7 @@ impl<T: SubTable> Model for Openings<T> {
 
     ghost view = { λ o. record { subs = T.contents o.table; deltas = o.deltas.items } };
 
-    ghost invariant = { λ o. IsOpened (T.contents o.table) o.deltas.items (vec_capacity o.deltas) o.members };
+    ghost invariant = { λ o. IsOpened (T.contents o.table) o.deltas.items (vec_capacity o.deltas) o.notes };
 }
 
 impl<T: SubTable> Openings<T> {
@@ -62,7 +65,7 @@ impl<T: SubTable> Openings<T> {
             alloc,
             table: T::new(alloc)?,
             deltas: Vec::new(alloc),
-            members: Members::new(alloc),
+            notes: Notes::new(alloc),
         })
     }
 
@@ -88,7 +91,7 @@ impl<T: SubTable> Openings<T> {
         ensures err { OnErr result (self.new ≡ self.old) }
     {
         let key = sub.key.try_clone(self.alloc)?;
-        self.members.forget();
+        self.notes.forget(); // one more may receive the subject
         reserve_for(&mut self.deltas, self.table.len())?;
         self.table.add(sub)?;
         self.deltas.push_reserved(Delta { key, up: true });
@@ -122,7 +125,7 @@ impl<T: SubTable> Openings<T> {
     pub fn set_max(&mut self, serial: u64, max: Option<u64>)
         ensures { self.new ≡ record self.old { subs = with_max serial max self.old.subs } }
     {
-        self.members.forget();
+        self.notes.forget(); // a receiver may have a maximum now
         self.table.set_max(serial, max);
     }
 
@@ -130,7 +133,7 @@ impl<T: SubTable> Openings<T> {
     pub fn close(&mut self, serial: u64)
         ensures { self.new ≡ with_closings (serial ∷ []) self.old }
     {
-        self.members.forget();
+        self.notes.forget(); // a receiver may be gone
         if let Some(sub) = self.table.remove(serial) {
             let Subscription { key, .. } = sub;
             self.deltas.push_reserved(Delta { key, up: false });
@@ -147,11 +150,36 @@ impl<T: SubTable> Openings<T> {
         }
     }
 
-    /// Tells the table that the subject will be looked up.
+    /// Tells that the subject will be looked up. Where its jobs come in a row, and there is memory, [`Openings::receivers`] has
+    /// those who receive it from here on, and else the table may find them sooner.
     pub fn remember(&mut self, subject: &Subject)
         ensures { self.new ≡ self.old }
     {
+        if self.notes.receivers.of(subject).is_some() {
+            return;
+        }
         self.table.remember(subject);
+        if self.notes.receivers.is_second(subject) {
+            self.note_receivers(subject);
+        }
+    }
+
+    /// Notes who receives the subject, where they are few, and who of these are members of queue groups; where there is memory.
+    fn note_receivers(&mut self, subject: &Subject)
+        ensures { self.new ≡ self.old }
+    {
+        if let Ok(matching) = self.table.matching(subject) {
+            let _ = self.notes.receivers.note(self.alloc, subject, &matching);
+            let _ = self.notes.members.note(subject, &matching);
+        }
+    }
+
+    /// All who receive the subject, in order of opening, where they are noted.
+    pub fn receivers(&self, subject: &Subject) -> Option<&[Receiver]>
+        ensures all { IfSome result (λ receivers. receivers.now ≡ receivers_of subject.now (filter (gets subject.now) self.now.subs)) }
+        ensures rising { AreRising self.now.subs }
+    {
+        self.notes.receivers.of(subject)
     }
 
     /// Notes the members of queue groups that match the subject, where there is memory: [`Openings::members`]
@@ -159,11 +187,11 @@ impl<T: SubTable> Openings<T> {
     pub fn note_members(&mut self, subject: &Subject)
         ensures { self.new ≡ self.old }
     {
-        if self.members.of(subject).is_some() {
+        if self.notes.members.of(subject).is_some() {
             return;
         }
         if let Ok(matching) = self.table.matching(subject) {
-            let _ = self.members.note(subject, &matching);
+            let _ = self.notes.members.note(subject, &matching);
         }
     }
 
@@ -177,7 +205,7 @@ impl<T: SubTable> Openings<T> {
         ensures all { IfOk result (λ subs. filter (is_in_group_of name.now) (lent_subs subs.items) ≡ filter (is_in_group_of name.now) (filter (gets subject.now) self.now.subs)) }
         ensures rising { AreRising self.now.subs }
     {
-        match self.members.of(subject) {
+        match self.notes.members.of(subject) {
             None => self.table.matching(subject),
             Some(members) => {
                 let subs = self.subs_of_mark(members, mark_of(name.bytes()))?;

@@ -27,7 +27,7 @@ use crate::dirty_conns::DirtyConns;
 use crate::faults::ShardFault;
 use crate::openings::Openings;
 use crate::queue_claim::{QueueClaim, choose};
-use client_frames::{ErrText, ReplyFrame, reply_line};
+use client_frames::{ErrText, MessageTails, ReplyFrame, reply_line};
 use outbox::{Entry, LAST_LINE_TEXT};
 use std::alloc::{AllocError, Global};
 use std::marker::Model;
@@ -200,6 +200,8 @@ pub struct Shard<T: SubTable> {
     chosen: Option<u64>,
     /// The memory of a walk, used again by the next.
     buffer: DeliveryBuffer,
+    /// The memory of what a walk's messages have in common.
+    tails: MessageTails,
     /// For which connections something was put.
     dirty_conns: DirtyConns,
 }
@@ -264,6 +266,7 @@ impl<T: SubTable> Shard<T> {
             draining: false,
             chosen: None,
             buffer: DeliveryBuffer::new(alloc, shard),
+            tails: MessageTails::new(alloc),
             dirty_conns: DirtyConns::new(alloc),
         })
     }
@@ -550,6 +553,7 @@ impl<T: SubTable> Shard<T> {
         self.buffer.start(self.shard, copies);
         let Ok(begun) = place_all(
             &mut self.buffer,
+            &mut self.tails,
             &mut self.conns,
             &mut self.dirty_conns,
             &mut self.openings,

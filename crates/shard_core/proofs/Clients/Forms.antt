@@ -1,6 +1,6 @@
 -- How many bytes an entry has in its two forms.
-use Rattle.std.proofs.Common.{◌≡◌, ◌≤◌, ◌+◌, ℕ, Bool, true, false, List, length, Option, None, sym, ap}
-use Rattle.client_frames.specs.Messages.{parts_with, line_around, due_bytes}
+use Rattle.std.proofs.Common.{◌≡◌, ◌≤◌, ◌+◌, ℕ, Bool, true, false, List, ◌++◌, length, Option, None, sym, ap}
+use Rattle.client_frames.specs.Messages.{Tails, parts_with, line_around, due_bytes, head_for, tail_for}
 use Rattle.outbox.specs.Views.{Written, message_entry}
 use Rattle.subj.specs.Messages.{Content, body_bytes}
 use Rattle.subj.specs.declared.jobs.Job.{Job}
@@ -31,3 +31,8 @@ both_messages lengths message sid plain headed false = plain
 pub both_some : (lengths : FormLengths) → 1 ≤ lengths.plain → 1 ≤ lengths.headed → (option : Bool) → 1 ≤ form_length lengths option
 both_some lengths plain headed true = headed
 both_some lengths plain headed false = plain
+
+pub both_parts : (lengths : FormLengths) (tails : Tails) (head : List ℕ) → lengths.plain ≡ length (head_for tails head false ++ tail_for tails false) → lengths.headed ≡ length (head_for tails head true ++ tail_for tails true)
+    → (option : Bool) → form_length lengths option ≡ length (head_for tails head option ++ tail_for tails option)
+both_parts lengths tails head plain headed true = headed
+both_parts lengths tails head plain headed false = plain

@@ -16,7 +16,7 @@ use Rattle.std.proofs.lemmas.Option.{same_Some, slice_get-get_or}
 use Rattle.std.proofs.lemmas.List.Kept.{AllPairs-filter}
 use Rattle.std.proofs.lemmas.List.Quantifiers.{all_pairs_push}
 use Rattle.outbox.specs.Views.{Waiting, Backlog, Written, has_room}
-use Rattle.shard_core.specs.Boxes.{AreRising, AreConns, HasRoomAt, IsBoxStaged, IsOpenAt, IsStagedWithin, client_in_view, number_of, shown_backlog, next_backlog}
+use Rattle.shard_core.specs.Boxes.{AreAlike, AreRising, AreConns, HasRoomAt, IsBoxStaged, IsOpenAt, IsStagedWithin, client_in_view, number_of, shown_backlog, next_backlog}
 use Rattle.shard_core.proofs.Clients.Lookups.{numbers_stay, place_within, changed_is, same_is, room_is, open_is, not_shut}
 
 -- ---- places
@@ -132,6 +132,30 @@ conns_chosen on places conns i x is was = record {
       by false e =
           let same : get_or (slice_set conns i y) j d ≡ get_or conns j d = get_or-set_other conns i j y d (grind (arith, nat_tests)) in
           ap (client_in_view next_backlog) same ∙ was.staged j d lt out ∙ sym (ap (client_in_view shown_backlog) same)
+
+-- the same places in another form
+pub conns_alike : {old new : List ℕ} (conns : List Conn) → AreAlike new old → AreConns old conns → AreConns new conns
+conns_alike conns alike was = record { rising = was.rising; staged = λ i d within out. was.staged i d within (sym (alike i) ∙ out) }
+
+any_more : (i p : ℕ) (places : List ℕ) → list_any (nat_eq i) (places ++ p ∷ []) ≡ (list_any (nat_eq i) places || nat_eq i p)
+any_more i p [] = by (nat_eq i p) where
+  by : (b : Bool) → (b || false) ≡ (false || b)
+  by true = refl
+  by false = refl
+any_more i p (q ∷ places) = by (any_more i p places) (nat_eq i q) where
+  by : list_any (nat_eq i) (places ++ p ∷ []) ≡ (list_any (nat_eq i) places || nat_eq i p) → (b : Bool) → (b || list_any (nat_eq i) (places ++ p ∷ [])) ≡ ((b || list_any (nat_eq i) places) || nat_eq i p)
+  by rest true = refl
+  by rest false = rest
+
+-- a place that stands among them already
+pub alike_there : (p : ℕ) (places : List ℕ) → list_any (nat_eq p) places ≡ true → AreAlike places (places ++ p ∷ [])
+alike_there p places there i = by (nat_eq i p) refl ∙ sym (any_more i p places) where
+  by : (b : Bool) → nat_eq i p ≡ b → list_any (nat_eq i) places ≡ (list_any (nat_eq i) places || b)
+  by true e = let same : i ≡ p = grind (arith, nat_tests) in let any : list_any (nat_eq i) places ≡ true = ap (λ k. list_any (nat_eq k) places) same ∙ there in any ∙ sym (ap (λ b. b || true) any)
+  by false e = either (list_any (nat_eq i) places) where
+    either : (b : Bool) → b ≡ (b || false)
+    either true = refl
+    either false = refl
 
 -- one place less
 pub conns_less : (places : List ℕ) (conns : List Conn) (i : ℕ) (x : Conn) (box : Waiting) → x ≡ slice_index_or conns i x → i < length conns → box.next ≡ box.shown → AreConns (i ∷ places) conns → AreConns places (slice_set conns i (record { number = x.number; outbox = box; headers = x.headers }))

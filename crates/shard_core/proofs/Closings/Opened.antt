@@ -15,8 +15,8 @@ use Rattle.sub_table.specs.declared.Subscription.{Subscription}
 use Rattle.shard_core.specs.Closings.{serials_of, is_left, left_of, closing, closings_of}
 use Rattle.shard_core.specs.Owed.{sub_with_count}
 use Rattle.shard_core.specs.Opened.{Opened, AreRising, IsNext, CanCount, IsOpened, with_counts, with_closings}
-use Rattle.shard_core.specs.Members.{AreNoted}
-use Rattle.shard_core.specs.declared.members.Members.{Members}
+use Rattle.shard_core.specs.Notes.{HoldNotes}
+use Rattle.shard_core.specs.declared.notes.Notes.{Notes}
 use Rattle.shard_core.proofs.Closings.Closed.{serials_left}
 
 -- what holds of each place holds of each entry
@@ -42,8 +42,8 @@ pub rising_left : (ended : List ℕ) (us : List Subscription) → AreRising us �
 rising_left ended us rising = subst (Pairs (λ j k. j < k)) (sym (serials_left ended us)) (pairs_filter (λ j k. j < k) (λ j. not (list_any (nat_eq j) ended)) (serials_of us) rising)
 
 -- the same serials stand in the same order, and are as many
-pub same_serials : (us vs : List Subscription) (ds : List Delta) (capacity : ℕ) (members after : Members) → serials_of vs ≡ serials_of us → AreNoted vs after → IsOpened us ds capacity members → IsOpened vs ds capacity after
-same_serials us vs ds capacity members after same noted was = record {
+pub same_serials : (us vs : List Subscription) (ds : List Delta) (capacity : ℕ) (notes after : Notes) → serials_of vs ≡ serials_of us → HoldNotes vs after → IsOpened us ds capacity notes → IsOpened vs ds capacity after
+same_serials us vs ds capacity notes after same noted was = record {
   noted = noted;
   rising = subst (Pairs (λ j k. j < k)) (sym same) was.rising;
   places = let as_many : length vs ≡ length us = sym (length-map vs serial_of) ∙ ap length same ∙ length-map us serial_of in let places = was.places in omega arith;

@@ -19,6 +19,8 @@ use Rattle.shard_core.specs.Shards.{Client, client_at, fits}
 use Rattle.shard_core.specs.Claims.{is_member}
 use Rattle.shard_core.specs.Owed.{sub_with_count, owed_entry, is_permitted}
 use Rattle.shard_core.specs.Opened.{AreRising, IsOpened}
+use Rattle.shard_core.specs.Notes.{HoldNotes}
+use Rattle.shard_core.specs.declared.notes.Notes.{Notes}
 use Rattle.shard_core.specs.Members.{mark_of, mark_of_queue, is_in_group, is_in_group_of, member_of, members_of, AreNoted, found_at, found_of}
 use Rattle.shard_core.proofs.Turns.Claims.{found_by_serial}
 
@@ -68,8 +70,8 @@ pub noted_counted : (given : List ℕ) (us : List Subscription) (members : Membe
 noted_counted given us members was noted = was noted ∙ sym (members_counted members.subject.items given us)
 
 -- what was noted is forgotten
-pub forgotten : (us vs : List Subscription) (ds : List Delta) (capacity : ℕ) (members after : Members) → vs ≡ us → ((subs : List Subscription) → AreNoted subs after) → IsOpened us ds capacity members → IsOpened vs ds capacity after
-forgotten us vs ds capacity members after same none was = subst (λ l. IsOpened l ds capacity after) (sym same) (record { rising = was.rising; noted = none us; places = was.places })
+pub forgotten : (us vs : List Subscription) (ds : List Delta) (capacity : ℕ) (notes after : Notes) → vs ≡ us → ((subs : List Subscription) → HoldNotes subs after) → IsOpened us ds capacity notes → IsOpened vs ds capacity after
+forgotten us vs ds capacity notes after same none was = subst (λ l. IsOpened l ds capacity after) (sym same) (record { rising = was.rising; noted = none us; places = was.places })
 
 -- ---- a look at what is noted
 

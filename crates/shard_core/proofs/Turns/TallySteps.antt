@@ -119,6 +119,13 @@ walk_more s job [] sub w = refl
 walk_more s job (u ∷ subs) sub w = walk_more s job subs sub (put_if_due s job w u)
 
 -- as far as a walk has come, and one step more
+pub walk_one_more : (subs : List Subscription) (job : Job) (matching : List Subscription) (i : ℕ) (d : Subscription) (first next after : List Client) (t0 t t2 : Tallied) → i < length matching
+    → Follows subs job (λ s w. walk_matching s job (take i matching) w) first t0 next t → Follows subs job (λ s w. put_if_due s job w (get_or matching i d)) next t after t2
+    → Follows subs job (λ s w. walk_matching s job (take (i + 1) matching) w) first t0 after t2
+walk_one_more subs job matching i d first next after t0 t t2 within so_far step copies s w of is =
+    subst (λ v. IsTallied copies s job v after t2) (sym (ap (λ l. walk_matching s job l w) (take_more matching i d within) ∙ walk_more s job (take i matching) (get_or matching i d) w))
+    (step copies s (walk_matching s job (take i matching) w) of (so_far copies s w of is))
+
 pub walk_on : (subs : List Subscription) (job : Job) (matching : List (Bor Subscription)) (i : ℕ) (d : Bor Subscription) (first next after : List Client) (t0 t t2 : Tallied) → i < length matching
     → Follows subs job (λ s w. walk_matching s job (lent_subs (take i matching)) w) first t0 next t → Follows subs job (λ s w. put_if_due s job w (get_or matching i d).now) next t after t2
     → Follows subs job (λ s w. walk_matching s job (lent_subs (take (i + 1) matching)) w) first t0 after t2
@@ -147,8 +154,11 @@ nothing_put s job (sub ∷ subs) w none = by (is_placed job sub) refl none (noth
   by true e some more = absurd (cc)
   by false e rest more = ap (walk_matching s job subs) (if_false (is_placed job sub) _ _ e) ∙ more w rest
 
+pub walk_of_none_due : (subs : List Subscription) (job : Job) (matching : List Subscription) (next : List Client) (t : Tallied) → filter (is_placed job) matching ≡ [] → Follows subs job (λ s w. walk_matching s job matching w) next t next t
+walk_of_none_due subs job matching next t none copies s w of is = subst (λ v. IsTallied copies s job v next t) (sym (nothing_put s job matching w none)) is
+
 pub walk_of_none : (subs : List Subscription) (job : Job) (looks : List (Bor Subscription)) (next : List Client) (t : Tallied) → filter (is_placed job) (lent_subs looks) ≡ [] → Follows subs job (λ s w. walk_matching s job (lent_subs looks) w) next t next t
-walk_of_none subs job looks next t none copies s w of is = subst (λ v. IsTallied copies s job v next t) (sym (nothing_put s job (lent_subs looks) w none)) is
+walk_of_none subs job looks next t none = walk_of_none_due subs job (lent_subs looks) next t none
 
 pub walk_whole : (subs : List Subscription) (job : Job) (looks : List (Bor Subscription)) (first next : List Client) (t0 t : Tallied) → lent_subs looks ≡ filter (gets job.message.subject) subs
     → Follows subs job (λ s w. walk_matching s job (lent_subs looks) w) first t0 next t → Follows subs job (λ s w. walk s job (filter (is_due job) s.subs) w) first t0 next t

@@ -1,9 +1,9 @@
-use Rattle.std.proofs.Common.{sym, ap, subst, ◌∙◌}
+use Rattle.std.proofs.Common.{ap, ◌∙◌}
 use Rattle.std.specs.Prelude.{position}
 use Rattle.outbox.specs.Views.{message_entry, with_entry}
 use Rattle.shard_core.specs.Shards.{client_at, clients_with_change, fits, has_number}
-use Rattle.shard_core.specs.Boxes.{Clients, AreConns}
-use Rattle.shard_core.proofs.Clients.Staging.{has_room_at, left_after, left_is, staged_is}
+use Rattle.shard_core.specs.Boxes.{Clients}
+use Rattle.shard_core.proofs.Clients.Staging.{has_room_at, left_after, left_is, staged_is, conns_alike}
 use Rattle.shard_core.proofs.Clients.Lookups.{place_within, seat_place}
 use Rattle.shard_core.proofs.connections.Conns.stage_message.Goals as goal
 
@@ -27,7 +27,7 @@ invariant_of-self-in_err-stage_message_at c =
     let n = c.args.seat.conn in
     let i = c.args.seat.place in
     let at = seat_place c.args.seat conns (ap (λ (l : Clients). position (has_number n) l.next) c.self.view_is ∙ c.requires.seat) in
-    subst (λ places. AreConns places c.stage_message_at.new.conns.items) (sym c.in_ok-note_staged.ensures.ok) (left_is n conns i at c.self.inside.places.items c.stage_message_at.new.conns.items c.self.invariant c.in_err-stage_message_at.ensures.err).keeps
+    conns_alike c.stage_message_at.new.conns.items c.in_ok-note_staged.ensures.ok (left_is n conns i at c.self.inside.places.items c.stage_message_at.new.conns.items c.self.invariant c.in_err-stage_message_at.ensures.err).keeps
 
 pub returns-in_err-stage_message_at-clause-shown : goal.returns-in_err-stage_message_at-clause-shown
 returns-in_err-stage_message_at-clause-shown c =
@@ -51,7 +51,7 @@ invariant_of-self-2 c =
     let n = c.args.seat.conn in
     let i = c.args.seat.place in
     let at = seat_place c.args.seat conns (ap (λ (l : Clients). position (has_number n) l.next) c.self.view_is ∙ c.requires.seat) in
-    subst (λ places. AreConns places c.stage_message_at.new.conns.items) (sym c.in_ok-note_staged.ensures.ok) (staged_is n conns i at (with_entry (message_entry c.args.id c.args.sub c.args.mode c.args.line.now c.args.body.now)) c.self.inside.places.items c.stage_message_at.new.conns.items c.self.invariant c.in_ok-stage_message_at.ensures.ok).keeps
+    conns_alike c.stage_message_at.new.conns.items c.in_ok-note_staged.ensures.ok (staged_is n conns i at (with_entry (message_entry c.args.id c.args.sub c.args.mode c.args.line.now c.args.body.now)) c.self.inside.places.items c.stage_message_at.new.conns.items c.self.invariant c.in_ok-stage_message_at.ensures.ok).keeps
 
 pub returns-clause-shown : goal.returns-clause-shown
 returns-clause-shown c =

@@ -29,7 +29,7 @@ invariant_of-self-in_default g c =
     let us = g.T.SubTable.contents c.self.inside.table in
     let none = closes_none c.args.serial us (sym c.in_default.ensures.closed) in
     let same = c.in_default.ensures.rest ∙ rest_is c.args.serial us c.self.invariant.rising ∙ none.0 in
-    forgotten us (g.T.SubTable.contents c.remove.new.self) c.self.inside.deltas.items (vec_capacity c.self.inside.deltas) c.self.inside.members c.forget.new.self same c.forget.ensures c.self.invariant
+    forgotten us (g.T.SubTable.contents c.remove.new.self) c.self.inside.deltas.items (vec_capacity c.self.inside.deltas) c.self.inside.notes c.forget.new.self same c.forget.ensures c.self.invariant
 
 pub returns-in-Some : goal.returns-in-Some
 returns-in-Some g c =

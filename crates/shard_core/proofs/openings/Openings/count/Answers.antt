@@ -4,8 +4,8 @@ use Rattle.shard_core.specs.Closings.{serials_of}
 use Rattle.shard_core.specs.Opened.{Opened, CanCount, with_counts}
 use Rattle.shard_core.specs.Owed.{sub_with_count}
 use Rattle.shard_core.proofs.Closings.Closed.{counted_serials}
-use Rattle.shard_core.specs.Members.{AreNoted}
-use Rattle.shard_core.proofs.Turns.Groups.{noted_counted}
+use Rattle.shard_core.specs.Notes.{HoldNotes}
+use Rattle.shard_core.proofs.Turns.Notes.{notes_counted}
 use Rattle.shard_core.proofs.Closings.Opened.{opened_same, same_serials, counts_none, counts_one, found_counts}
 use Rattle.shard_core.proofs.openings.Openings.count.Goals as goal
 
@@ -26,7 +26,7 @@ pub invariant_of-self : goal.invariant_of-self
 invariant_of-self g c =
     let us = g.T.SubTable.contents c.self.inside.table in
     let set = c.set_count.ensures ∙ counts_one c.args.serial us c.in-Some.sub.now c.self.invariant.rising (sym c.in-Some.ensures) in
-    same_serials us _ _ _ _ _ (ap serials_of set ∙ counted_serials (c.args.serial ∷ []) us) (subst (λ l. AreNoted l c.self.inside.members) (sym set) (noted_counted (c.args.serial ∷ []) us c.self.inside.members c.self.invariant.noted)) c.self.invariant
+    same_serials us _ _ _ _ _ (ap serials_of set ∙ counted_serials (c.args.serial ∷ []) us) (subst (λ l. HoldNotes l c.self.inside.notes) (sym set) (notes_counted (c.args.serial ∷ []) us c.self.inside.notes c.self.invariant.noted)) c.self.invariant
 
 pub returns : goal.returns
 returns g c =

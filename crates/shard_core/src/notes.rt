@@ -1,0 +1,37 @@
+//! What is noted of a subject: its receivers, for the jobs that come in a row, and the members of queue groups among them, for the
+//! claims of one job.
+
+ghost use Rattle.std.specs.Prelude.{List};
+ghost use Rattle.sub_table.specs.declared.Subscription.{Subscription as Opened};
+ghost use Rattle.shard_core.specs.Notes.{HoldNotes};
+
+use crate::members::Members;
+use crate::receivers::Receivers;
+use std::alloc::Global;
+
+/// All that is noted of open subscriptions by a subject. It holds until one is opened or closed, or has another maximum.
+#[derive(Drop)]
+pub struct Notes {
+    pub members: Members,
+    pub receivers: Receivers,
+}
+
+impl Notes {
+    /// Nothing is noted.
+    pub fn new(alloc: Global) -> Notes
+        ensures { (subs : List Opened) → HoldNotes subs result }
+    {
+        Notes {
+            members: Members::new(alloc),
+            receivers: Receivers::new(alloc),
+        }
+    }
+
+    /// What is noted holds no longer. Takes no memory.
+    pub fn forget(&mut self)
+        ensures { (subs : List Opened) → HoldNotes subs self.new }
+    {
+        self.members.forget();
+        self.receivers.forget();
+    }
+}
