@@ -3,6 +3,7 @@
 ghost use Rattle.client_frames.specs.declared.server_frames.ReplyFrame.TheVariants as reply;
 ghost use Rattle.client_conn.specs.declared.ask.ClientAction.TheVariants as ask;
 ghost use Rattle.client_frames.specs.declared.client_line.Awaited.TheVariants as awaits;
+ghost use Rattle.client_frames.specs.declared.client_line.ClientLine.TheVariants as lines;
 ghost use Rattle.client_conn.specs.declared.conn.Looked.TheVariants as looks;
 ghost use Rattle.std.specs.Prelude.{◌≡◌, ◌∷◌, ◌++◌, List, [], drop, is_some, not, slice_get, option_copied, option_to_list, ◌≤◌, length, false, true, None, Some, IfOk, OnOk, OnErr, IsSome, IsOkAnd, Err, if◌then◌else◌};
 ghost use Rattle.client_frames.specs.Streams.{asked, client_grammar, command_told, refusal_told, headers_awaited};
@@ -55,14 +56,24 @@ impl Model for OpenAsks {
     ghost view = { λ s. record { asks = option_to_list s.confirmation ++ option_to_list s.own; options = s.options } };
 }
 
+/// Asks for nothing in the place. Most often nothing was asked there, and nothing is dropped then.
+#[inline(always)]
+fn empty(place: &mut Option<ClientAction>)
+    ensures { place.new ≡ None }
+{
+    if place.is_some() {
+        *place = None;
+    }
+}
+
 /// Asks for `+OK` in verbose mode, before what a command asks for itself.
+#[inline(always)]
 fn confirm(confirmation: &mut Option<ClientAction>, options: Options)
     ensures { (own : List ClientAction) → option_to_list confirmation.new ++ own ≡ with_confirmation options own }
 {
+    empty(confirmation);
     if options.verbose {
         *confirmation = Some(ClientAction::Reply(ReplyFrame::Ok));
-    } else {
-        *confirmation = None;
     }
 }
 
@@ -130,6 +141,7 @@ impl OpenAsks {
             echo: self.options.echo,
         };
         confirm(&mut self.confirmation, self.options);
+        empty(&mut self.own);
         self.own = Some(ClientAction::Publish(publication));
     }
 
@@ -411,10 +423,7 @@ impl ItemReader {
             Err(fault) => return Ok(self.end_with(ErrText::of_cut(fault), open_asks)),
         };
         match meaning {
-            Ok(command) => {
-                self.cutter.consume(size);
-                Ok(self.tell(command, open_asks))
-            }
+            Ok(command) => Ok(self.take(size, command, open_asks)),
             Err(Failure::Refused(fault)) => {
                 self.cutter.consume(size);
                 Ok(self.refuse(fault, open_asks))
@@ -434,20 +443,53 @@ impl ItemReader {
         Looked::Told
     }
 
+    /// Uses up the line of a command, and does what that tells. A publication is told apart first: there are most of them.
+    #[inline(always)]
+    fn take(&mut self, size: usize, command: ClientLine, open_asks: &mut OpenAsks) -> Looked
+        requires line { piece_length (cut_of self.old.cutter) ≡ Some size }
+        requires behind { IsBehindLine (record self.old { cutter = after_next self.old.cutter }) }
+        ensures tells { TellsFound result open_asks.old open_asks.new
+            (finding_before client_grammar (after_next self.old.cutter).unread (command_told command))
+            (end_of self.new) }
+        ensures step { IsInStep self.new }
+    {
+        match command {
+            ClientLine::Pub(head) => {
+                self.cutter.consume(size);
+                self.announce(head, open_asks)
+            }
+            command => {
+                self.cutter.consume(size);
+                self.tell(command, open_asks)
+            }
+        }
+    }
+
+    /// The line of a publication was used up: what it announces comes next, where that is within the limit.
+    #[inline(always)]
+    fn announce(&mut self, head: PubHead, open_asks: &mut OpenAsks) -> Looked
+        requires behind { IsBehindLine self.old }
+        ensures tells { TellsFound result open_asks.old open_asks.new
+            (finding_before client_grammar self.old.cutter.unread (command_told (lines.Pub head)))
+            (end_of self.new) }
+        ensures step { IsInStep self.new }
+    {
+        if let Err(fault) = self.cutter.expect(head.size) {
+            return self.end_with(ErrText::of_cut(fault), open_asks);
+        }
+        self.awaited = Awaited::Payload(head);
+        Looked::Announced
+    }
+
     /// What a command tells whose line was used up.
+    #[inline(never)]
     fn tell(&mut self, command: ClientLine, open_asks: &mut OpenAsks) -> Looked
         requires behind { IsBehindLine self.old }
         ensures tells { TellsFound result open_asks.old open_asks.new (finding_before client_grammar self.old.cutter.unread (command_told command)) (end_of self.new) }
         ensures step { IsInStep self.new }
     {
         match command {
-            ClientLine::Pub(head) => {
-                if let Err(fault) = self.cutter.expect(head.size) {
-                    return self.end_with(ErrText::of_cut(fault), open_asks);
-                }
-                self.awaited = Awaited::Payload(head);
-                Looked::Announced
-            }
+            ClientLine::Pub(head) => self.announce(head, open_asks),
             ClientLine::PubBad { size } => {
                 if let Err(fault) = self.cutter.expect(size) {
                     return self.end_with(ErrText::of_cut(fault), open_asks);

@@ -72,6 +72,7 @@ pub(crate) struct Arguments<'a> {
 
 impl<'a> Arguments<'a> {
     /// The fields of a text, where these are two or three.
+    #[inline(always)]
     pub(crate) fn read(text: &'a [u8]) -> Option<Arguments<'a>>
         ensures { MatchOption result (two_or_three (fields text.now) ≡ None) (λ a. two_or_three (fields text.now)
             ≡ Some (record { first = a.first.now; between = option_copied a.between; last = a.last.now })) }
@@ -238,6 +239,7 @@ impl SharedTexts {
     }
 
     /// A copy of bytes that are a subject.
+    #[inline(never)]
     pub(crate) fn new_subject(&mut self, text: &[u8]) -> Result<Subject, AllocError>
         requires { subject_fault text.now ≡ None }
         ensures { IfOk result (λ subject. subject ≡ text.now) }
@@ -256,6 +258,7 @@ impl SharedTexts {
 
     /// A copy of bytes, where they are a subject; the one that is kept, where they are its own. Want of memory comes only
     /// where they are one.
+    #[inline(always)]
     pub(crate) fn subject(&mut self, text: &[u8]) -> Result<Option<Subject>, AllocError>
         ensures ok { IfOk result (λ subject. subject ≡ (if is_some (subject_fault text.now) then None else Some text.now)) }
         ensures err { OnErr result (subject_fault text.now ≡ None) }
@@ -295,8 +298,28 @@ pub fn decode_line(texts: &mut SharedTexts, line: &[u8]) -> Result<ClientLine, F
     decode_behind(texts, Operation::read(field), text)
 }
 
-/// What an operation asks for, with the text behind it.
+/// What an operation asks for, with the text behind it. Publications, of which there are most, are read in place.
+#[inline(always)]
 fn decode_behind(
+    texts: &mut SharedTexts,
+    operation: Option<Operation>,
+    text: &[u8],
+) -> Result<ClientLine, Failure<LineFault>>
+    ensures { ClientLineMeans (operation_meaning operation text.now (fields text.now)) result }
+{
+    match operation {
+        Some(Operation::Pub) => decode_pub(texts, text),
+        operation => {
+            // bound first: what is read in place is then built where it goes, and not moved there
+            let other = decode_other(texts, operation, text);
+            other
+        }
+    }
+}
+
+/// The same of any operation.
+#[inline(never)]
+fn decode_other(
     texts: &mut SharedTexts,
     operation: Option<Operation>,
     text: &[u8],
@@ -335,6 +358,7 @@ fn fault_of_reply(reply: Option<&[u8]>) -> Option<NameFault>
 }
 
 /// The subject of an answer, where one is awaited.
+#[inline(always)]
 fn read_reply(texts: &mut SharedTexts, reply: Option<&[u8]>) -> Result<Option<Reply>, AllocError>
     requires { reply_fault (option_copied reply) ≡ None }
     ensures { IfOk result (λ read. read ≡ option_copied reply.entry) }
@@ -346,6 +370,7 @@ fn read_reply(texts: &mut SharedTexts, reply: Option<&[u8]>) -> Result<Option<Re
 }
 
 /// What a line asks for that publishes on this subject: so many bytes follow it, of which so many are its header block.
+#[inline(always)]
 fn decode_publication(
     texts: &mut SharedTexts,
     subject: &[u8],
@@ -370,6 +395,7 @@ fn decode_publication(
     }))
 }
 
+#[inline(always)]
 fn decode_pub(texts: &mut SharedTexts, text: &[u8]) -> Result<ClientLine, Failure<LineFault>>
     ensures { ClientLineMeans (publication_of (two_or_three (fields text.now))) result }
 {

@@ -446,6 +446,7 @@ impl Hub {
 
     /// What a publication owes that has this turn and these queue names, if any, each of which the server at its place
     /// serves.
+    #[inline(always)]
     fn plan_by(
         &self,
         turn: Turn,
@@ -504,6 +505,7 @@ impl Hub {
 
     /// What a publication owes that has this turn. Refused: 61 where more queue names want it than a publication may
     /// have.
+    #[inline(never)]
     fn plan_named(
         &self,
         turn: Turn,
@@ -530,6 +532,7 @@ impl Hub {
     }
 
     /// The same of one that no queue name wants: no room is made for names and for their servers.
+    #[inline(always)]
     fn plan_unnamed(
         &self,
         turn: Turn,
@@ -557,6 +560,7 @@ impl Hub {
 
     /// What a publication owes that has this turn, where no peer is eligible: the server serves all of the queue names
     /// itself.
+    #[inline(always)]
     fn plan_alone(
         &self,
         turn: Turn,
@@ -594,6 +598,7 @@ impl Hub {
 
     /// What a publication owes that has this turn: from the names in mind, or by a look at who wants it. Refused as
     /// [`Hub::plan_named`] is.
+    #[inline(always)]
     fn plan_at(
         &self,
         turn: Turn,
@@ -610,7 +615,9 @@ impl Hub {
             return self.plan_alone(turn, conn, publication, names);
         }
         if self.is_named(subject) {
-            return self.plan_named(turn, conn, publication, word);
+            // bound first: the plan of most publications is then built where it goes, and not moved there
+            let plan = self.plan_named(turn, conn, publication, word);
+            return plan;
         }
         self.plan_unnamed(turn, conn, publication, word)
     }
@@ -621,6 +628,7 @@ impl Hub {
     /// Refused: 60 where a shard is a window behind, of the last turns that the shards finished; 62 where
     /// the last number of a publication or the last turn was used; 61 where more queue names want it than a
     /// publication may have. (Profile.)
+    #[inline(always)]
     pub fn plan_publish(
         &self,
         conn: ConnId,

@@ -73,6 +73,7 @@ fn frame_with(
 /// Puts the frame for an eligible peer behind the others, where it is owed one: where it has a plain key that matches,
 /// or was chosen for a queue name. Takes memory only for names, and for the copy of the message. (NATS documentation,
 /// "Cluster Protocol": `RMSG`.)
+#[inline(never)]
 fn put_frame(
     out: &Outgoing<'_>,
     place: usize,
@@ -120,6 +121,7 @@ fn add_frame(
 }
 
 /// The frames for all peers that are owed one, in the order of the servers.
+#[inline(always)]
 pub(crate) fn frames_for(out: &Outgoing<'_>, peers: &[Peer]) -> Result<Vec<Numbered>, AllocError>
     requires split { IsSplit (unwrap_or (option_copied out.now.names) []) out.now.servers.now }
     requires placed { length peers.now ≡ length out.now.server.now.names }
@@ -136,6 +138,7 @@ pub(crate) fn frames_for(out: &Outgoing<'_>, peers: &[Peer]) -> Result<Vec<Numbe
 }
 
 /// The job of the server's own shards, for a message of this connection.
+#[inline(always)]
 pub(crate) fn own_job(
     out: &Outgoing<'_>,
     turn: Turn,
@@ -372,8 +375,26 @@ fn names_of(
     Ok(chosen)
 }
 
+/// The same as a list that is shared. Takes memory only where there are some.
+#[inline(never)]
+fn names_among(
+    alloc: Global,
+    names: &FoundNames<'_>,
+    servers: &[Option<NodeId>],
+    server_name: NodeId,
+) -> Result<QueueNames, AllocError>
+    requires all { length names.now ≤ length servers.now }
+    requires ordered { are_queue_names (chosen_for server_name names.now servers.now) ≡ true }
+    ensures { IfOk result (λ queues. queues ≡ chosen_for server_name names.now servers.now) }
+{
+    let chosen = names_of(alloc, names, servers, server_name)?;
+    let queues = QueueNames::from_names(alloc, chosen)?;
+    Ok(queues.unwrap())
+}
+
 /// The queue names for which the server of this name was chosen, of those that were found, if any. Takes memory only
 /// where there are some.
+#[inline(always)]
 pub(crate) fn names_for(
     alloc: Global,
     names: Option<&FoundNames<'_>>,
@@ -384,10 +405,8 @@ pub(crate) fn names_for(
     requires ordered { are_queue_names (chosen_for server_name (unwrap_or (option_copied names) []) servers.now) ≡ true }
     ensures { IfOk result (λ queues. queues ≡ chosen_for server_name (unwrap_or (option_copied names.entry) []) servers.now) }
 {
-    let Some(names) = names else {
-        return Ok(QueueNames::new());
-    };
-    let chosen = names_of(alloc, names, servers, server_name)?;
-    let queues = QueueNames::from_names(alloc, chosen)?;
-    Ok(queues.unwrap())
+    match names {
+        None => Ok(QueueNames::new()),
+        Some(names) => names_among(alloc, names, servers, server_name),
+    }
 }

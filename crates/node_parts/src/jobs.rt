@@ -38,7 +38,20 @@ pub fn finished_by<R: Race>(race: &R, shards: u64) -> Finished
 }
 
 /// Fills the list with copies of a job: with the job itself they are so many. Takes no memory where that is all.
+#[inline(always)]
 pub fn fill(copies: &mut Vec<Job>, job: &Job, count: usize) -> Result<(), AllocError>
+    requires { 1 ≤ count }
+    ensures { OnOk result (copies.new.items ++ job.now ∷ [] ≡ replicate count job.now) }
+{
+    if count == 1 && copies.is_empty() {
+        return Ok(());
+    }
+    fill_anew(copies, job, count)
+}
+
+/// The same, whatever the list holds.
+#[inline(never)]
+fn fill_anew(copies: &mut Vec<Job>, job: &Job, count: usize) -> Result<(), AllocError>
     requires { 1 ≤ count }
     ensures { OnOk result (copies.new.items ++ job.now ∷ [] ≡ replicate count job.now) }
 {

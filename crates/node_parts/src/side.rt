@@ -129,6 +129,7 @@ impl HubWithSessions {
     }
 
     /// [`Hub::plan_publish`].
+    #[inline(always)]
     pub fn plan_publish(
         &self,
         conn: ConnId,

@@ -7,27 +7,20 @@ use Rattle.client_conn.specs.declared.conn.Looked.TheVariants as looks
 use Rattle.client_conn.proofs.Looking.{announced, command_asked, is_in_step, too_large}
 use Rattle.client_conn.proofs.conn.ItemReader.tell.Goals as goal
 
+pub returns-in-Pub-clause-tells : goal.returns-in-Pub-clause-tells
+returns-in-Pub-clause-tells c =
+    subst (λ l. TellsFound c.announce.result c.args.open_asks.now c.announce.new.open_asks (finding_before client_grammar c.args.self.now.cutter.unread (command_told l)) (end_of c.announce.new.self)) (sym c.in-Pub.is) c.announce.ensures.tells
+
 pub returns-in-Err-clause-tells : goal.returns-in-Err-clause-tells
 returns-in-Err-clause-tells c =
-    subst (λ l. TellsFound c.end_with.result c.args.open_asks.now c.end_with.new.open_asks (finding_before client_grammar c.args.self.now.cutter.unread (command_told l)) (end_of c.end_with.new.self)) (sym c.in-Pub.is)
-    (too_large c.end_with.result c.args.open_asks.now c.end_with.new.open_asks c.args.self.now c.end_with.new.self (awaits.Payload c.in-Pub.head) c.in-Pub.head.size c.in-Err.fault c.of_cut.result c.requires.behind
+    subst (λ l. TellsFound c.end_with.result c.args.open_asks.now c.end_with.new.open_asks (finding_before client_grammar c.args.self.now.cutter.unread (command_told l)) (end_of c.end_with.new.self)) (sym c.in-PubBad.is)
+    (too_large c.end_with.result c.args.open_asks.now c.end_with.new.open_asks c.args.self.now c.end_with.new.self (awaits.LostPayload c.in-PubBad.size) c.in-PubBad.size c.in-Err.fault c.of_cut.result c.requires.behind
     (sym c.in-Err.ensures.answer) c.end_with.ensures.told c.of_cut.ensures c.end_with.ensures.asks (ap end_of c.end_with.ensures.ended))
-
-pub returns-in-Err-expect-clause-tells : goal.returns-in-Err-expect-clause-tells
-returns-in-Err-expect-clause-tells c =
-    subst (λ l. TellsFound c.end_with-in-Err-expect.result c.args.open_asks.now c.end_with-in-Err-expect.new.open_asks (finding_before client_grammar c.args.self.now.cutter.unread (command_told l)) (end_of c.end_with-in-Err-expect.new.self)) (sym c.in-PubBad.is)
-    (too_large c.end_with-in-Err-expect.result c.args.open_asks.now c.end_with-in-Err-expect.new.open_asks c.args.self.now c.end_with-in-Err-expect.new.self (awaits.LostPayload c.in-PubBad.size) c.in-PubBad.size c.in-Err-expect.fault c.of_cut-in-Err-expect.result c.requires.behind
-    (sym c.in-Err-expect.ensures.answer) c.end_with-in-Err-expect.ensures.told c.of_cut-in-Err-expect.ensures c.end_with-in-Err-expect.ensures.asks (ap end_of c.end_with-in-Err-expect.ensures.ended))
 
 pub returns-in_default-expect-clause-tells : goal.returns-in_default-expect-clause-tells
 returns-in_default-expect-clause-tells c =
-    subst (λ l. TellsFound looks.Announced c.args.open_asks.now c.args.open_asks.now (finding_before client_grammar c.args.self.now.cutter.unread (command_told l)) (end_of (record c.args.self.now { cutter = c.expect.new.self; awaited = awaits.Payload c.in-Pub.head }))) (sym c.in-Pub.is)
-    (announced c.args.open_asks.now c.args.self.now c.expect.new.self (awaits.Payload c.in-Pub.head) c.in-Pub.head.size c.requires.behind (sym c.in_default-expect.ensures.answer) c.expect.ensures.state)
-
-pub returns-in_default-expect-2-clause-tells : goal.returns-in_default-expect-2-clause-tells
-returns-in_default-expect-2-clause-tells c =
-    subst (λ l. TellsFound looks.Announced c.args.open_asks.now c.args.open_asks.now (finding_before client_grammar c.args.self.now.cutter.unread (command_told l)) (end_of (record c.args.self.now { cutter = c.expect-in-PubBad.new.self; awaited = awaits.LostPayload c.in-PubBad.size }))) (sym c.in-PubBad.is)
-    (announced c.args.open_asks.now c.args.self.now c.expect-in-PubBad.new.self (awaits.LostPayload c.in-PubBad.size) c.in-PubBad.size c.requires.behind (sym c.in_default-expect-2.ensures.answer) c.expect-in-PubBad.ensures.state)
+    subst (λ l. TellsFound looks.Announced c.args.open_asks.now c.args.open_asks.now (finding_before client_grammar c.args.self.now.cutter.unread (command_told l)) (end_of (record c.args.self.now { cutter = c.expect.new.self; awaited = awaits.LostPayload c.in-PubBad.size }))) (sym c.in-PubBad.is)
+    (announced c.args.open_asks.now c.args.self.now c.expect.new.self (awaits.LostPayload c.in-PubBad.size) c.in-PubBad.size c.requires.behind (sym c.in_default-expect.ensures.answer) c.expect.ensures.state)
 
 pub returns-in_default : goal.returns-in_default
 returns-in_default c = record {
