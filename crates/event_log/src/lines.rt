@@ -88,10 +88,19 @@ fn peer_cause(cause: PeerCause) -> &'static str {
     }
 }
 
-fn caller_text(caller: Caller) -> &'static str {
-    match caller {
-        Caller::Client => "a client",
-        Caller::Server => "a server",
+/// Who connected, in words.
+#[derive(Clone, Copy, Drop)]
+struct CallerText(Caller);
+
+impl Display for CallerText {
+    fn fmt<W: Write>(&self, f: &mut Formatter<W>) -> fmt::Result {
+        match self.0 {
+            Caller::Client => f.write_str("a client"),
+            Caller::Server { from: None } => f.write_str("a server"),
+            Caller::Server {
+                from: Some(address),
+            } => write!(f, "a server from {address}"),
+        }
     }
 }
 
@@ -114,7 +123,11 @@ fn refusal_cause(cause: RefusalCause) -> &'static str {
     }
 }
 
-fn write_refusal<W: Write>(f: &mut Formatter<W>, who: &str, cause: RefusalCause) -> fmt::Result {
+fn write_refusal<W: Write, D: Display + Drop>(
+    f: &mut Formatter<W>,
+    who: D,
+    cause: RefusalCause,
+) -> fmt::Result {
     match cause {
         RefusalCause::System(cause) => write!(f, "{who} is refused: {}", SystemText(cause)),
         _ => write!(f, "{who} is refused: {}", refusal_cause(cause)),
@@ -164,7 +177,7 @@ impl Display for EventText {
                 )
             }
             Event::ConnectionRefused { caller, cause } => {
-                write_refusal(f, caller_text(caller), cause)
+                write_refusal(f, CallerText(caller), cause)
             }
             Event::PeerRefused { peer, cause } => write_refusal(f, peer.text(), cause),
             Event::OutOfMemory => f.write_str(

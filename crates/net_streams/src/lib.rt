@@ -13,13 +13,14 @@
 //! and nothing left out, and the bytes behind that still wait (`Outgoing::write_to`, and for all runs of writes together
 //! `bytes_keep_their_order`). Behind a fault no write is made.
 //!
-//! In reading order: `stream` is what a connection needs, `sockets` and `mem_stream` have it; `wire` reads and writes one and notes
+//! In reading order: `stream` is what a connection needs, `sockets` and `mem_stream` have it, and a socket may end in `silence`; `wire` reads and writes one and notes
 //! its end; `outgoing` keeps what it did not take; `laws` speak of all runs of writes together.
 #![tactic(auto)]
 
 mod laws;
 mod mem_stream;
 mod outgoing;
+mod silence;
 mod sockets;
 mod stream;
 mod wire;
@@ -27,5 +28,6 @@ mod wire;
 pub use laws::{bytes_keep_their_order, memory_holds_what_it_took};
 pub use mem_stream::MemStream;
 pub use outgoing::Outgoing;
+pub use silence::end_unanswered;
 pub use stream::{Stream, StreamFault};
 pub use wire::Wire;

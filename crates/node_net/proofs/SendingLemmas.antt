@@ -2,12 +2,13 @@
 use Rattle.std.proofs.Common.{◌≡◌, ℕ, ◌+◌, ◌-◌, ◌^◌, min, Bool, true, false, List, [], ◌∷◌, ◌++◌, length, Result, Ok, Err, refl, ap, ◌∙◌, append-nil}
 use Rattle.std.specs.Prelude.{OnOk, OnErr}
 use Rattle.std.specs.Result.{is_err}
+use Rattle.std.proofs.lemmas.Bool.{OnTrue_at}
 use Rattle.net_streams.specs.Writes.{Came, HasWritten}
 use Rattle.net_streams.specs.Lives.{Lives, all_put, all_taken}
 use Rattle.net_streams.proofs.LifeLemmas.{keeps_order}
 use Rattle.net_streams.specs.declared.wire.Wire.{Wire}
 use Rattle.node_net.specs.declared.connection.Connection.{Connection}
-use Rattle.node_net.specs.Sending.{out_of_memory, sending, sent_to, Keeps, Loses, KeptInOrder, LostAtTheEnd}
+use Rattle.node_net.specs.Sending.{out_of_memory, sending, sent_to, Keeps, Loses, KeptInOrder, LostAtTheEnd, NothingBehindALoss}
 
 -- nothing waited, and a run of writes was made
 lives_written : {S : Type 0} (gave wrote : S → Came → S → Type 0) (out bytes : List ℕ) (was : Bool) (before : S) (rest : List ℕ) (failed : Bool) (after : S) → out ≡ [] → HasWritten wrote bytes was before rest failed after
@@ -95,3 +96,6 @@ lost_at_the_end gave wrote old bytes new loses = (
       ∙ in_order gave wrote old.out bytes loses.front old.wire.has_failed old.wire.stream (old.out ++ loses.lost) loses.failed loses.stream loses.lives,
   ap (λ (c : Connection _). c.ending) loses.is,
 )
+
+pub nothing_behind_a_loss : {S : Type 0} (gave wrote : S → Came → S → Type 0) → NothingBehindALoss gave wrote
+nothing_behind_a_loss gave wrote old bytes gone more new loses sends = OnTrue_at (ap (λ (c : Connection _). c.has_gap) loses.is) sends.0

@@ -1,5 +1,6 @@
 -- What becomes of bytes that are sent to a connection.
-use Rattle.std.specs.Prelude.{◌≡◌, ℕ, ◌-◌, ◌^◌, ◌+◌, min, Bool, List, [], ◌∷◌, ◌++◌, length, Some, ◌⊎◌}
+use Rattle.std.specs.Prelude.{◌≡◌, ℕ, ◌-◌, ◌^◌, ◌+◌, min, Bool, true, List, [], ◌∷◌, ◌++◌, length, Some, ◌⊎◌}
+use Rattle.std.specs.Bool.{OnTrue, OnFalse}
 use Rattle.std.specs.Option.{option_or}
 use Rattle.net_streams.specs.Writes.{Came}
 use Rattle.net_streams.specs.Lives.{Happening, put, taken, Lives, all_taken}
@@ -10,9 +11,9 @@ use Rattle.node_net.specs.declared.connection.Ending.TheVariants.{Open, Shut, Go
 
 -- ---- the end of a connection
 
--- There was no memory for what it is owed: it is given up, for that cause unless there was another before.
+-- There was no memory for what it is owed: it is sent nothing more and given up, for that cause unless there was another before.
 abbrev pub out_of_memory : {S : Type 0} → Connection S → Connection S
-out_of_memory c = record c { ending = Gone; cause = option_or c.cause (Some OutOfMemory) }
+out_of_memory c = record c { has_gap = true; ending = Gone; cause = option_or c.cause (Some OutOfMemory) }
 
 -- how a connection ends of which these bytes wait: one that is shut is given up once none does
 abbrev pub ending_beside : Ending → List ℕ → Ending
@@ -55,9 +56,13 @@ pub record Loses {S : Type 0} (gave wrote : S → Came → S → Type 0) (old : 
   pub lives : Lives gave wrote old.out old.wire.has_failed old.wire.stream (sending old.out bytes front) (old.out ++ lost) failed stream
   pub is : new ≡ out_of_memory (sent_to old bytes old.out failed stream)
 
--- Bytes are sent: they are kept, or the connection is given up.
+-- Bytes are sent behind some of which none is lost: they are kept, or the connection is given up.
+abbrev pub KeepsOrLoses : {S : Type 0} → (S → Came → S → Type 0) → (S → Came → S → Type 0) → Connection S → List ℕ → Connection S → Type 0
+KeepsOrLoses gave wrote old bytes new = Keeps gave wrote old bytes new ⊎ Loses gave wrote old bytes new
+
+-- Bytes are sent. Behind some that are lost these are lost too: nothing is written, and nothing changes.
 abbrev pub Sends : {S : Type 0} → (S → Came → S → Type 0) → (S → Came → S → Type 0) → Connection S → List ℕ → Connection S → Type 0
-Sends gave wrote old bytes new = Keeps gave wrote old bytes new ⊎ Loses gave wrote old bytes new
+Sends gave wrote old bytes new = OnTrue old.has_gap (new ≡ old) × OnFalse old.has_gap (KeepsOrLoses gave wrote old bytes new)
 
 -- ---- what follows
 
@@ -71,3 +76,8 @@ KeptInOrder {S} gave wrote = (old : Connection S) (bytes : List ℕ) (new : Conn
 abbrev pub LostAtTheEnd : {S : Type 0} → (S → Came → S → Type 0) → (S → Came → S → Type 0) → Type 0
 LostAtTheEnd {S} gave wrote = (old : Connection S) (bytes : List ℕ) (new : Connection S) (loses : Loses gave wrote old bytes new)
     → (all_taken (sending old.out bytes loses.front) ++ (new.out ++ loses.lost) ≡ old.out ++ bytes) × (new.ending ≡ Gone)
+
+-- Once some are lost, nothing is sent any more.
+abbrev pub NothingBehindALoss : {S : Type 0} → (S → Came → S → Type 0) → (S → Came → S → Type 0) → Type 0
+NothingBehindALoss {S} gave wrote = (old : Connection S) (bytes : List ℕ) (gone : Connection S) (more : List ℕ) (new : Connection S)
+    → Loses gave wrote old bytes gone → Sends gave wrote gone more new → new ≡ gone

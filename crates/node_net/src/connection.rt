@@ -1,9 +1,9 @@
 //! A connection of a server: its stream, and what is read of it and written to it.
 
-ghost use Rattle.std.specs.Prelude.{◌≡◌, ◌↔◌, ◌-◌, ◌^◌, min, if◌then◌else◌, false, ◌||◌, nat_lt, [], length, IsTrue};
+ghost use Rattle.std.specs.Prelude.{◌≡◌, ◌↔◌, ◌-◌, ◌^◌, min, if◌then◌else◌, true, false, ◌||◌, nat_lt, [], length, IsTrue};
 ghost use Rattle.std.specs.Bool.{OnTrue, OnFalse};
 ghost use Rattle.net_streams.specs.Writes.{HasWritten};
-ghost use Rattle.node_net.specs.Sending.{Sends, out_of_memory, closed_if_written};
+ghost use Rattle.node_net.specs.Sending.{Sends, KeepsOrLoses, out_of_memory, closed_if_written};
 
 use crate::client_link::ClientLink;
 use crate::handshake::Proving;
@@ -17,6 +17,7 @@ use route_session::SessionId;
 use server_calls::{ServerCalls, ShardCalls};
 use server_events::{ClientCause, Event};
 use std::alloc::{AllocError, Global};
+use std::net::SocketAddr;
 use std::sync::Wait;
 use subj::{ConnId, Failure, READ_BYTES, ServerIdentity as Life};
 use wire_cut::FillFault;
@@ -119,6 +120,10 @@ pub(crate) struct Connection<S: Stream> {
     pub cause: Option<Cause>,
     /// Whether it is told that it ends.
     is_told: bool,
+    /// Whether bytes that were sent are lost: it is sent nothing more.
+    has_gap: bool,
+    /// Whether its stream is to be connected still.
+    awaits_stream: bool,
     /// When it is given up, in milliseconds since the loop began; never for the greatest number.
     deadline: u64,
     /// Whether its stream took a byte of what waited, since it was last watched.
@@ -134,6 +139,8 @@ impl<S: Stream> Connection<S> {
         ensures link { result.link ≡ link }
         ensures out { result.out ≡ [] }
         ensures ending { result.ending ≡ Ending.Open }
+        ensures gap { result.has_gap ≡ false }
+        ensures connecting { result.awaits_stream ≡ false }
     {
         Connection {
             wire: Wire::new(stream),
@@ -151,6 +158,8 @@ impl<S: Stream> Connection<S> {
             is_leaving: false,
             cause: None,
             is_told: false,
+            has_gap: false,
+            awaits_stream: false,
             deadline: u64::MAX,
             has_moved: false,
         }
@@ -415,7 +424,7 @@ impl<S: Stream> Connection<S> {
 
     /// It is given up at this time, or earlier where it would have been.
     pub fn limit(&mut self, deadline: u64)
-        ensures { self.new.deadline ≡ min self.old.deadline deadline }
+        ensures { self.new ≡ record self.old { deadline = min self.old.deadline deadline } }
     {
         self.deadline = self.deadline.min(deadline);
     }
@@ -455,10 +464,11 @@ impl<S: Stream> Connection<S> {
         self.ending = Ending::Gone;
     }
 
-    /// There is no memory for what it is owed: it is closed at the end of the turn.
+    /// There is no memory for what it is owed: it is sent nothing more, and closed at the end of the turn.
     pub fn want_memory(&mut self)
         ensures { self.new ≡ out_of_memory self.old }
     {
+        self.has_gap = true;
         self.cause = self.cause.or(Some(Cause::OutOfMemory));
         self.give_up();
     }
@@ -482,6 +492,33 @@ impl<S: Stream> Connection<S> {
             Some(cause) if !self.is_told => Some(closed(client, cause, self.backlog())),
             Some(_) => None,
         }
+    }
+
+    /// Its stream is to be connected still: it is given up at this time, or earlier where it would have been.
+    pub fn await_stream(&mut self, deadline: u64)
+        ensures { self.new ≡ record self.old { awaits_stream = true; deadline = min self.old.deadline deadline } }
+    {
+        self.awaits_stream = true;
+        self.limit(deadline);
+    }
+
+    /// Its stream is connected. Where it was to be still, it is given up at this time in place of the one before.
+    pub fn connected(&mut self, deadline: u64)
+        ensures { self.new ≡ (if self.old.awaits_stream then record self.old { awaits_stream = false; deadline = deadline } else self.old) }
+    {
+        if std::mem::replace(&mut self.awaits_stream, false) {
+            self.deadline = deadline;
+        }
+    }
+
+    /// Whether it is a route whose other end could tell who it is, and has not.
+    pub fn is_silent(&self) -> bool {
+        self.is_unknown() && !self.awaits_stream
+    }
+
+    /// Whence its other end came, which has dialed and is to tell still who it is, where that is known.
+    pub fn came_from(&self) -> Option<SocketAddr> {
+        self.route()?.came_from()
     }
 
     /// Whether it is a route whose other end is to tell still who it is.
@@ -582,9 +619,18 @@ impl<S: Stream> Connection<S> {
     }
 
     /// Sends bytes: those that the stream does not take now are kept. For want of memory to keep them the
-    /// connection is given up, since it would miss them.
+    /// connection is given up, since it would miss them, and is sent nothing more.
     pub fn send(&mut self, bytes: &[u8])
         ensures { Sends S.gave S.wrote self.old bytes.now self.new }
+    {
+        if !self.has_gap {
+            self.send_next(bytes);
+        }
+    }
+
+    /// The same behind bytes of which none is lost.
+    fn send_next(&mut self, bytes: &[u8])
+        ensures { KeepsOrLoses S.gave S.wrote self.old bytes.now self.new }
     {
         self.moved = self.moved.saturating_add(bytes.len());
         let rest = if self.out.is_empty() {

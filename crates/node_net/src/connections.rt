@@ -6,7 +6,9 @@ ghost use Rattle.std.specs.Prelude.{◌≡◌};
 
 use crate::connection::{Cause, Connection, Ending};
 use crate::handshake::Proving;
-use crate::limits::{GREETING, IDLE, IDLE_STEP, LAST_BYTES, RETRY, ROUTE_STALL, STRANGER_STAY};
+use crate::limits::{
+    DIAL, GREETING, IDLE, IDLE_STEP, LAST_BYTES, RETRY, ROUTE_STALL, STRANGER_STAY,
+};
 use crate::route_link::Stepped;
 use crate::taken::Taken;
 use net_streams::Stream;
@@ -310,6 +312,23 @@ impl<S: Stream> Connections<S> {
         }
     }
 
+    /// The stream of a connection is to be connected still, and has [`DIAL`] from now for that.
+    pub fn await_stream(&mut self, key: usize) {
+        let deadline = self.now.saturating_add(DIAL);
+        if let Some(connection) = self.table.get_mut(key) {
+            connection.await_stream(deadline);
+        }
+        self.await_deadline(key);
+    }
+
+    /// The stream of a connection is connected. Where it was to be still, its other end has [`GREETING`] from now to tell who it is.
+    pub fn connected(&mut self, key: usize) {
+        let deadline = self.now.saturating_add(GREETING);
+        if let Some(connection) = self.table.get_mut(key) {
+            connection.connected(deadline);
+        }
+    }
+
     /// The session of a route is kept: it is not given up for having none.
     pub fn lift_limit(&mut self, key: usize) {
         if let Some(connection) = self.table.get_mut(key) {
@@ -494,17 +513,27 @@ impl<S: Stream> Connections<S> {
         }
     }
 
-    /// The other end of a route did not tell in time who it is.
+    /// The other end of a route did not tell in time who it is, although it could.
     fn tell_silent(&mut self, key: usize) {
         let is_silent = match self.table.get(key) {
             None => false,
-            Some(connection) => connection.is_unknown(),
+            Some(connection) => connection.is_silent(),
         };
         if is_silent {
-            self.tell(Event::ConnectionRefused {
-                caller: Caller::Server,
-                cause: RefusalCause::Silent,
-            });
+            let event = self.refused(key, RefusalCause::Silent);
+            self.tell(event);
+        }
+    }
+
+    /// What is told of another server that has dialed, or who would be one, and is refused for this cause.
+    pub fn refused(&self, key: usize, cause: RefusalCause) -> Event {
+        let from = match self.table.get(key) {
+            None => None,
+            Some(connection) => connection.came_from(),
+        };
+        Event::ConnectionRefused {
+            caller: Caller::Server { from },
+            cause,
         }
     }
 

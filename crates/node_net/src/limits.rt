@@ -23,7 +23,20 @@ pub(crate) const CONTROL_LINE: usize = 64;
 /// The most connections of operators that are kept while their lines are not whole.
 pub(crate) const CONTROL_LINKS: usize = 8;
 
-/// How long the session of a route may take to be complete, in milliseconds.
+/// Behind how many seconds in which nothing came on a route the system asks its other end whether it is there still, and how many pass between
+/// two such asks.
+pub(crate) const ASKED_EVERY: u32 = 1;
+
+/// How long the other end of a route may leave unanswered what was sent to it, or take no byte of it, in milliseconds, counted from when TCP has
+/// sent it again: the system ends the route then. So a route that was cut off is dialed anew, and does not wait for TCP, whose pauses before it
+/// sends again double each time. Of two asks one may be lost: it is more than twice [`ASKED_EVERY`].
+pub(crate) const UNANSWERED: u32 = 2_200;
+
+/// How long it may take until the connection to a server that is dialed stands, in milliseconds: longer than the way to it and back takes by a
+/// satellite. It is dialed anew then: TCP would try again after one second, three and seven.
+pub(crate) const DIAL: u64 = 700;
+
+/// How long the session of a route may take to be complete, in milliseconds, once its connection stands.
 pub(crate) const GREETING: u64 = 5_000;
 
 /// The most connections that others have dialed and whose other ends are to prove still which servers they are, where the mesh has a secret.
@@ -36,8 +49,12 @@ pub(crate) const STRANGER_STAY: u64 = 100;
 /// The first pause between two dials of one server, in milliseconds.
 pub(crate) const FIRST_PAUSE: u64 = 25;
 
-/// The longest pause between two dials of one server, in milliseconds.
-pub(crate) const LAST_PAUSE: u64 = 1_000;
+/// The longest pause between two dials of one server, in milliseconds: no longer than one that nobody answers takes ([`DIAL`]). A machine whose link
+/// is joined may look for its neighbours' addresses for a second more, and then answers none of what came meanwhile.
+pub(crate) const LAST_PAUSE: u64 = 700;
+
+/// For how long a server was reached that is dialed at once where it is lost, in milliseconds.
+pub(crate) const STOOD: u64 = 1_000;
 
 /// How long to wait, in milliseconds, before something is tried again for which there was no memory, or no
 /// descriptor.

@@ -1,8 +1,8 @@
 //! Over which connections the other servers of the cluster are reached, and when they are dialed again.
 
-ghost use Rattle.std.specs.Prelude.{◌≤◌};
+ghost use Rattle.std.specs.Prelude.{◌≡◌, ◌*◌, min};
 
-use crate::limits::{FIRST_PAUSE, LAST_PAUSE};
+use crate::limits::{FIRST_PAUSE, LAST_PAUSE, STOOD};
 use std::alloc::{AllocError, Global};
 
 /// What leads to one other server.
@@ -120,9 +120,9 @@ struct Redial {
     since: Option<u64>,
 }
 
-/// How long the pause behind one of so many milliseconds is: twice as long, and no longer than a second.
+/// How long the pause behind one of so many milliseconds is: twice as long, and no longer than [`LAST_PAUSE`].
 fn next_pause(pause: u64) -> u64
-    ensures { result ≤ 1000 }
+    ensures { result ≡ min (2 * pause) 700 }
 {
     pause.saturating_mul(2).min(LAST_PAUSE)
 }
@@ -185,7 +185,7 @@ impl Redials {
         }
     }
 
-    /// The server at this place is reached now, or is not. Once it was reached as long as the longest pause it is
+    /// The server at this place is reached now, or is not. Once it was reached for [`STOOD`] it is
     /// dialed at once where it is lost, and before only after the pause: its other end may refuse each route.
     pub fn look(&mut self, place: usize, now: u64, is_reached: bool) {
         let Some(redial) = self.redials.get_mut(place) else {
@@ -197,7 +197,7 @@ impl Redials {
         }
         let since = redial.since.unwrap_or(now);
         redial.since = Some(since);
-        if now.saturating_sub(since) >= LAST_PAUSE {
+        if now.saturating_sub(since) >= STOOD {
             redial.at = 0;
             redial.pause = FIRST_PAUSE;
         }

@@ -13,8 +13,9 @@ use net_streams::Stream;
 use peer_proof::{Acceptor, Dialer, FreshWord, Secret, WORD};
 use route_session::SessionFault;
 use server_calls::ServerCalls;
-use server_events::{Caller, Event, RefusalCause};
+use server_events::{Event, RefusalCause};
 use std::alloc::Global;
+use std::net::SocketAddr;
 use std::sync::Wait;
 use subj::{Failure, NodeId};
 
@@ -115,15 +116,15 @@ impl<S: Stream, C: ServerCalls> Server<S, C> {
     }
 
     /// A route of which nothing was read, to somebody who has dialed and is to prove which server it is, where there is a place for one.
-    pub(crate) fn stranger(&mut self) -> Result<Link, AddFault> {
+    pub(crate) fn stranger(&mut self, from: Option<SocketAddr>) -> Result<Link, AddFault> {
         if !self.has_place() {
             return Err(AddFault::TooManyStrangers);
         }
         let word = self.guard.take_word()?;
         let handshake = Handshake::Acceptor(Acceptor::AwaitsHello(word));
         let proof = boxed(self.alloc, handshake)?;
-        let link = RouteLink::new(self.alloc, None, Stage::Accepted(None), Some(proof));
-        Ok(Link::Route(link))
+        let stage = Stage::Accepted { from, proved: None };
+        Ok(Link::Route(RouteLink::new(self.alloc, None, stage, Some(proof))))
     }
 
     /// This end of the handshake with the server at this place, which is dialed and is told what is encoded.
@@ -212,10 +213,7 @@ impl<S: Stream, C: ServerCalls> Server<S, C> {
     fn refusal_at(&self, key: usize, cause: RefusalCause) -> Event {
         match self.dialed_at(key) {
             Some(peer) => Event::PeerRefused { peer, cause },
-            None => Event::ConnectionRefused {
-                caller: Caller::Server,
-                cause,
-            },
+            None => self.connections.refused(key, cause),
         }
     }
 

@@ -11,6 +11,7 @@ use route_session::{SessionFault, SessionId};
 use server_calls::{HubCalls, ServerCalls};
 use server_events::RefusalCause;
 use std::alloc::Global;
+use std::net::SocketAddr;
 use std::sync::Wait;
 use subj::{Failure, Incarnation, MAX_SNAPSHOT, ROUTE_LINE, ServerIdentity as Life, WINDOW};
 use wire_cut::{Cutter, FillFault, Piece, Source};
@@ -20,10 +21,17 @@ use wire_cut::{Cutter, FillFault, Piece, Source};
 pub(crate) enum Stage {
     /// This server dialed the one at this place, and waits for its `INFO`.
     Dialed(usize),
-    /// Another server dialed, and is to send its `CONNECT`: the one at this place, where it has proved that.
-    Accepted(Option<usize>),
+    /// Another server dialed, from this address where that is known, and is to send its `CONNECT`: the one at this place, where it has proved
+    /// that.
+    Accepted {
+        from: Option<SocketAddr>,
+        proved: Option<usize>,
+    },
     /// The session is kept with the server at this place, in that life.
-    Kept { peer: usize, inc: Incarnation },
+    Kept {
+        peer: usize,
+        inc: Incarnation,
+    },
 }
 
 /// What a route was told to send, and with whom its session is kept now.
@@ -238,7 +246,18 @@ impl RouteLink {
     /// The server at this place, which dialed, has proved itself: this is its session.
     pub fn admit(&mut self, place: usize, session: SessionId) {
         self.session = Some(session);
-        self.stage = Stage::Accepted(Some(place));
+        self.stage = Stage::Accepted {
+            from: self.came_from(),
+            proved: Some(place),
+        };
+    }
+
+    /// Whence the server came that has dialed, and whose session is not kept, where that is known.
+    pub fn came_from(&self) -> Option<SocketAddr> {
+        match self.stage {
+            Stage::Accepted { from, .. } => from,
+            Stage::Dialed(_) | Stage::Kept { .. } => None,
+        }
     }
 
     /// Whether its session is kept.
@@ -438,7 +457,10 @@ impl RouteLink {
     /// Whether the other end has proved that it is another server than the one at this place.
     fn has_proved_other(&self, peer: usize) -> bool {
         match self.stage {
-            Stage::Accepted(Some(place)) => place != peer,
+            Stage::Accepted {
+                proved: Some(place),
+                ..
+            } => place != peer,
             _ => false,
         }
     }

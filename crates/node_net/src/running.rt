@@ -4,13 +4,14 @@ use crate::addresses::PeerAddresses;
 use crate::connection::Cause;
 use crate::control::{CONTROL, CONTROL_LINK, Control};
 use crate::faults::AddFault;
-use crate::limits::{ACCEPTS, EVENTS, RETRY};
+use crate::limits::{ACCEPTS, ASKED_EVERY, EVENTS, RETRY, UNANSWERED};
 use crate::peers::Redials;
 use crate::server::{Server, Side};
 use crate::shutdown::Shutdown;
 use mio::event::Event as Ready;
 use mio::net::{TcpListener, TcpStream};
 use mio::{Events, Interest, Poll, Token};
+use net_streams::end_unanswered;
 use peer_proof::WORD;
 use server_calls::ServerCalls;
 use server_events::{Caller, Event, EventSink, RefusalCause, SystemCause};
@@ -45,6 +46,11 @@ pub struct Sockets {
     pub control: Option<Control>,
 }
 
+/// Whether a client is at the other end.
+fn is_client(side: Side) -> bool {
+    matches!(side, Side::Client)
+}
+
 /// Where connections come in.
 #[derive(Drop)]
 struct Door {
@@ -64,15 +70,15 @@ impl Door {
             listener: Some(listener),
             side,
             has_more: true,
-            is_open: matches!(side, Side::Client),
+            is_open: is_client(side),
         }
     }
 
-    /// Whether clients come in here.
-    fn is_for_clients(&self) -> bool {
+    /// Who is at the other end of a connection that came in here from this address.
+    fn side_from(&self, from: SocketAddr) -> Side {
         match self.side {
-            Side::Client => true,
-            Side::Accepted | Side::Dialed(_) => false,
+            Side::Accepted(_) => Side::Accepted(Some(from)),
+            side => side,
         }
     }
 
@@ -94,8 +100,10 @@ impl Door {
             return Accepted::Nothing;
         };
         match listener.accept() {
-            Ok((stream, from)) if self.takes(rt, from, addresses) => Accepted::Stream(stream),
-            Ok(_) => Accepted::Stranger,
+            Ok((stream, from)) if self.takes(rt, from, addresses) => {
+                Accepted::Stream(stream, self.side_from(from))
+            }
+            Ok((_, from)) => Accepted::Stranger(self.side_from(from)),
             Err(error) if error.kind() == io::ErrorKind::WouldBlock => Accepted::Nothing,
             Err(error) => Accepted::Failed(SystemCause::of(&error)),
         }
@@ -104,9 +112,10 @@ impl Door {
 
 /// What accepting came to.
 enum Accepted {
-    Stream(TcpStream),
+    /// Somebody who is taken, and is at the other end.
+    Stream(TcpStream, Side),
     /// Somebody who is not taken, and whose connection is closed.
-    Stranger,
+    Stranger(Side),
     Nothing,
     Failed(SystemCause),
 }
@@ -166,7 +175,7 @@ impl Rounds {
             start,
             poll,
             clients: Door::new(clients, Side::Client),
-            routes: Door::new(routes, Side::Accepted),
+            routes: Door::new(routes, Side::Accepted(None)),
             redials: Redials::new(alloc),
             changes: 0,
             ready: Vec::new(alloc),
@@ -225,7 +234,7 @@ impl Rounds {
 fn caller_of(side: Side) -> Option<Caller> {
     match side {
         Side::Client => Some(Caller::Client),
-        Side::Accepted => Some(Caller::Server),
+        Side::Accepted(from) => Some(Caller::Server { from }),
         Side::Dialed(_) => None,
     }
 }
@@ -392,10 +401,10 @@ impl<C: ServerCalls> Server<TcpStream, C> {
                 return false;
             }
             match door.accept(rt, mesh.addresses) {
-                Accepted::Stream(stream) => {
-                    self.take_in(rt, poll, &*door, mesh.shutdown, stream);
+                Accepted::Stream(stream, side) => {
+                    self.take_in(rt, poll, side, mesh.shutdown, stream);
                 }
-                Accepted::Stranger => self.tell_refused(door.side, RefusalCause::Stranger),
+                Accepted::Stranger(side) => self.tell_refused(side, RefusalCause::Stranger),
                 Accepted::Nothing => door.has_more = false,
                 Accepted::Failed(cause) => {
                     self.tell_failed(&*door, cause, had_failed);
@@ -411,11 +420,11 @@ impl<C: ServerCalls> Server<TcpStream, C> {
         &mut self,
         rt: &R,
         poll: &Poll,
-        door: &Door,
+        side: Side,
         shutdown: &Shutdown,
         stream: TcpStream,
     ) {
-        if self.take(rt, poll, stream, door.side) && door.is_for_clients() {
+        if self.take(rt, poll, stream, side) && is_client(side) {
             shutdown.take();
         }
     }
@@ -447,9 +456,7 @@ impl<C: ServerCalls> Server<TcpStream, C> {
         self.draw_word(rt, side);
         match self.add(rt, stream, side) {
             Ok(key) => {
-                if !self.watch(poll, key) {
-                    self.connections.give_up_for(key, Cause::Unwatched);
-                }
+                self.begin(poll, key, side);
                 true
             }
             Err(fault) => {
@@ -461,7 +468,7 @@ impl<C: ServerCalls> Server<TcpStream, C> {
 
     /// Draws a random word where the next connection is a route that needs one. Where the system gives none, the route is refused.
     fn draw_word<R: RandomSource>(&mut self, rt: &R, side: Side) {
-        if matches!(side, Side::Client) || !self.wants_word() {
+        if is_client(side) || !self.wants_word() {
             return;
         }
         let mut word = [0; WORD];
@@ -470,13 +477,24 @@ impl<C: ServerCalls> Server<TcpStream, C> {
         }
     }
 
-    /// Has the system tell when a connection is ready. Whether it does.
-    fn watch(&mut self, poll: &Poll, key: usize) -> bool {
-        let both = Interest::READABLE | Interest::WRITABLE;
-        match self.stream_mut(key) {
-            None => false,
-            Some(stream) => poll.registry().register(stream, Token(key), both).is_ok(),
+    /// Begins to watch a connection that was taken. One that was dialed is to be connected still.
+    fn begin(&mut self, poll: &Poll, key: usize, side: Side) {
+        if matches!(side, Side::Dialed(_)) {
+            self.await_stream(key);
         }
+        if !self.watch(poll, key, side) {
+            self.connections.give_up_for(key, Cause::Unwatched);
+        }
+    }
+
+    /// Has the system tell when a connection is ready, and end a route whose other end answers nothing any more. Whether it does.
+    fn watch(&mut self, poll: &Poll, key: usize, side: Side) -> bool {
+        let both = Interest::READABLE | Interest::WRITABLE;
+        let Some(stream) = self.stream_mut(key) else {
+            return false;
+        };
+        let is_heard = is_client(side) || end_unanswered(&*stream, UNANSWERED, ASKED_EVERY);
+        is_heard && poll.registry().register(stream, Token(key), both).is_ok()
     }
 
     /// Dials the servers of the cluster that are not reached and are due.
@@ -569,6 +587,8 @@ impl<C: ServerCalls> Server<TcpStream, C> {
         let has_closed = event.is_read_closed() || event.is_error();
         if has_closed {
             self.connections.hang_up(key);
+        } else {
+            self.connected(key);
         }
         if has_closed || event.is_readable() {
             return rounds.note(key);

@@ -26,6 +26,7 @@ use server_calls::{HubCalls, ServerCalls};
 use server_events::{Caller, Event, Events, PeerCause, RefusalCause};
 use shard_core::DirtyConns;
 use std::alloc::{AllocError, Global};
+use std::net::SocketAddr;
 use std::sync::Wait;
 use subj::{ConnId, Failure, HostText, NodeId, ServerIdentity as Life};
 
@@ -34,8 +35,8 @@ use subj::{ConnId, Failure, HostText, NodeId, ServerIdentity as Life};
 pub enum Side {
     /// A client.
     Client,
-    /// Another server, which has dialed.
-    Accepted,
+    /// Another server, which has dialed, from this address where it is known.
+    Accepted(Option<SocketAddr>),
     /// The server at this place of the cluster, which this one has dialed.
     Dialed(usize),
 }
@@ -205,6 +206,17 @@ impl<S: Stream, C: ServerCalls> Server<S, C> {
         Ok(key)
     }
 
+    /// The stream of a connection, which was dialed, is to be connected still. It is given up where it is not within [`DIAL`](crate::limits::DIAL),
+    /// and no line tells of it.
+    pub fn await_stream(&mut self, key: usize) {
+        self.connections.await_stream(key);
+    }
+
+    /// The stream of a connection is connected. Where it was to be still, its other end has [`GREETING`] from now to tell who it is.
+    pub fn connected(&mut self, key: usize) {
+        self.connections.connected(key);
+    }
+
     /// Makes room for one connection more, wherever it may stand.
     fn reserve(&mut self) -> Result<(), AllocError> {
         self.connections.reserve()?;
@@ -249,8 +261,8 @@ impl<S: Stream, C: ServerCalls> Server<S, C> {
     fn link<R: Wait>(&mut self, rt: &R, side: Side) -> Result<Link, AddFault> {
         match side {
             Side::Client => self.client(rt),
-            Side::Accepted if self.has_secret() => self.stranger(),
-            Side::Accepted => self.accepted(rt),
+            Side::Accepted(from) if self.has_secret() => self.stranger(from),
+            Side::Accepted(from) => self.accepted(rt, from),
             Side::Dialed(peer) => self.dialed(rt, peer),
         }
     }
@@ -265,13 +277,14 @@ impl<S: Stream, C: ServerCalls> Server<S, C> {
     }
 
     /// A server that has dialed.
-    fn accepted<R: Wait>(&mut self, rt: &R) -> Result<Link, AddFault> {
+    fn accepted<R: Wait>(&mut self, rt: &R, from: Option<SocketAddr>) -> Result<Link, AddFault> {
         let (session, info) = accept(rt, self.node)?;
         if encode_info(info, &mut self.encoded).is_err() {
             cut(rt, self.node, session);
             return Err(AddFault::OutOfMemory);
         }
-        Ok(self.route(session, Stage::Accepted(None), None))
+        let stage = Stage::Accepted { from, proved: None };
+        Ok(self.route(session, stage, None))
     }
 
     /// The server at this place, which is dialed.
@@ -357,7 +370,9 @@ impl<S: Stream, C: ServerCalls> Server<S, C> {
         self.guard.lose_stranger(key);
         if connection.cause.is_none() {
             self.connections.tell(Event::ConnectionRefused {
-                caller: Caller::Server,
+                caller: Caller::Server {
+                    from: connection.came_from(),
+                },
                 cause: RefusalCause::Left,
             });
         }

@@ -28,8 +28,8 @@ impl SystemCause {
 pub enum Caller {
     /// A client.
     Client,
-    /// Another server of the cluster, or who would be one.
-    Server,
+    /// Another server of the cluster, or who would be one, which came from this address where it is known.
+    Server { from: Option<SocketAddr> },
 }
 
 /// Why a server closed the connection of a client.

@@ -10,6 +10,7 @@ use server_calls::ServerCalls;
 use server_events::Event;
 use std::alloc::{AllocError, Global};
 use std::fmt::Write;
+use std::net::SocketAddr;
 use std::sync::Wait;
 use subj::{HostText, ServerIdentity as Life};
 
@@ -28,12 +29,15 @@ pub struct End<C: ServerCalls> {
     known: Vec<Known>,
 }
 
-/// Who is at the other end: `client`, `accepted`, or the place of the server that is dialed.
+/// Who is at the other end: `client`, `accepted`, the address of a server that has dialed, or the place of one that is dialed.
 fn side_of(word: &str) -> Side {
     match word {
         "client" => Side::Client,
-        "accepted" => Side::Accepted,
-        _ => Side::Dialed(number(word) as usize),
+        "accepted" => Side::Accepted(None),
+        _ => match word.parse::<SocketAddr>() {
+            Ok(from) => Side::Accepted(Some(from)),
+            Err(_) => Side::Dialed(number(word) as usize),
+        },
     }
 }
 
@@ -172,7 +176,7 @@ impl<C: ServerCalls> End<C> {
     fn admits<R: Wait>(&mut self, rt: &R, first: u64) -> bool {
         self.server.set_word(word_from(first));
         let mut ready = MemStream::new(self.alloc);
-        self.add(rt, &mut ready, Side::Accepted).is_some()
+        self.add(rt, &mut ready, Side::Accepted(None)).is_some()
     }
 
     /// So many dial.
@@ -275,6 +279,8 @@ impl<C: ServerCalls> End<C> {
             }
             "turn_on" => self.turn_on(rt),
             "time" => self.server.set_time(words.number(0)),
+            "await_stream" => self.server.await_stream(key),
+            "connected" => self.server.connected(key),
             "drain" => self.server.drain(words.number(0)),
             "secret" => self.guard(bytes)?,
             "word" => self.server.set_word(word_from(words.number(0))),

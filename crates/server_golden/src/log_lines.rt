@@ -55,9 +55,11 @@ fn event_of(call: &str, first: u64, second: u64) -> Option<Event> {
         "stopped" => Event::Stopped,
         "failed" => Event::Failed { cause },
         "client_refused" => refused(Caller::Client, cause),
-        "server_refused" => refused(Caller::Server, cause),
+        "server_refused" => refused(Caller::Server { from: None }, cause),
         "stranger_refused" => Event::ConnectionRefused {
-            caller: Caller::Server,
+            caller: Caller::Server {
+                from: Some(local(first)),
+            },
             cause: RefusalCause::Stranger,
         },
         "unresolved" => Event::PeerUnresolved { peer: peer()? },

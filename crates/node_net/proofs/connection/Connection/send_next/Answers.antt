@@ -1,8 +1,8 @@
 -- What the stream does not take of the bytes is put behind what waits.
 use Rattle.std.proofs.Common.{rules, ◌≡◌, [], inl, inr}
 use Rattle.node_net.proofs.SendingLemmas.{TookFirst, took_first, took_none, rest_kept, rest_lost}
-use Rattle.node_net.proofs.connection.Connection.send.Goals as goal
-use Rattle.node_net.proofs.connection.Connection.send.Goals.{then-is_empty, else-is_empty}
+use Rattle.node_net.proofs.connection.Connection.send_next.Goals as goal
+use Rattle.node_net.proofs.connection.Connection.send_next.Goals.{then-is_empty, else-is_empty}
 
 pub returns-then-is_err : goal.returns-then-is_err
 returns-then-is_err g c =
