@@ -1,6 +1,15 @@
 //! A client's connection: what its bytes ask for, asked of its shard and of the hub, which are held with a count of what is asked in a run.
 
-ghost use Rattle.std.specs.Prelude.{⊤};
+ghost use Rattle.std.specs.Prelude.{◌≡◌, ◌⊎◌, ◌||◌, true, false, length, Ok, IfOk, OnErr, IfErr};
+ghost use Rattle.std.specs.Io.KnownBytes.{Keeps};
+ghost use Rattle.client_conn.specs.Asks.{first_asking};
+ghost use Rattle.client_conn.specs.Feeding.{HasRead};
+ghost use Rattle.client_calls.specs.Calls.{attached, detached, IsNotAttached};
+ghost use Rattle.node_net.specs.Holds.{served_or_short, next_place, ran_of as ran_behind, RunsTo, RunsAtHub, RunsAtShard, HasNoShard, RunsAt, Advances, MadeByHub, OnlyIfPublished};
+ghost use Rattle.node_net.specs.Holds.{names_of, Pops, Closes, ClosesSome, Detaches, LeavesShard};
+ghost use Rattle.std.specs.Result.{is_ok};
+ghost use Rattle.node_net.specs.declared.client_link.Place.TheVariants.{Shard, Hub};
+ghost use Rattle.node_net.specs.declared.limits.TheConstants.{SHARD_RUN};
 
 use crate::limits::SHARD_RUN;
 use crate::runs::{Ran, RunOutcome, cost_of};
@@ -34,7 +43,9 @@ impl Sids {
     }
 
     /// How many there are.
-    fn len(&self) -> usize {
+    fn len(&self) -> usize
+        ensures { result ≡ length (names_of self.now) }
+    {
         self.texts.len()
     }
 
@@ -53,8 +64,10 @@ impl Sids {
         self.texts.remove(sid.bytes());
     }
 
-    /// Takes one of them out. None where there is none, and for want of memory.
-    fn pop(&mut self) -> Option<Sid> {
+    /// Takes the last of them out. None where there is none, and for want of memory.
+    fn pop(&mut self) -> Option<Sid>
+        ensures { Pops (names_of self.old) result (names_of self.new) }
+    {
         let text = self.texts.pop_last()?;
         Sid::read(self.alloc, &text).ok()
     }
@@ -93,7 +106,9 @@ struct ShardTally<S: ShardCalls> {
 
 impl<S: ShardCalls> ShardTally<S> {
     /// Nothing was asked.
-    fn new(shard: S, sids: Sids) -> ShardTally<S> {
+    fn new(shard: S, sids: Sids) -> ShardTally<S>
+        ensures { result.shard ≡ shard }
+    {
         ShardTally {
             shard,
             sids,
@@ -102,9 +117,12 @@ impl<S: ShardCalls> ShardTally<S> {
     }
 
     /// What was asked, in a run that came to this.
-    fn run(&self, end: Ran) -> RunOutcome {
+    fn run(&self, end: Ran) -> RunOutcome
+        ensures { result.end ≡ end }
+    {
         let mut run = self.so_far;
         run.end = end;
+        run.has_deltas = !run.is_empty && self.shard.has_deltas();
         run
     }
 }
@@ -173,7 +191,9 @@ struct HubTally<H: HubCalls> {
 
 impl<H: HubCalls> HubTally<H> {
     /// Nothing was published.
-    fn new(hub: H, words: Pcg64) -> HubTally<H> {
+    fn new(hub: H, words: Pcg64) -> HubTally<H>
+        ensures { result.hub ≡ hub }
+    {
         HubTally {
             hub,
             words,
@@ -182,16 +202,19 @@ impl<H: HubCalls> HubTally<H> {
     }
 
     /// What was published, in a run that came to this.
-    fn run(&self, end: Ran) -> RunOutcome {
+    fn run(&self, end: Ran) -> RunOutcome
+        ensures end { result.end ≡ end }
+        ensures empty { result.is_empty ≡ self.now.so_far.is_empty }
+    {
         let mut run = self.so_far;
         run.end = end;
         run
     }
 }
 
-// What a publication made of the hub is not told, since `HubCalls` does not tell it. A hub has no connections of its own.
+// A hub has no connections of its own. Where nothing is counted, nothing was published.
 impl<H: HubCalls> ClientCalls for HubTally<H> {
-    ghost made = { λ _ _ _. ⊤ };
+    ghost made = { λ before called after. MadeByHub H.published before.hub called after.hub × OnlyIfPublished before.hub before.so_far.is_empty after.hub after.so_far.is_empty };
 
     fn attach(&mut self) -> Result<ConnId, Failure<Refusal>> {
         Err(Failure::Refused(Refusal::Other))
@@ -218,10 +241,10 @@ impl<H: HubCalls> ClientCalls for HubTally<H> {
     }
 
     fn publish(&mut self, conn: ConnId, publication: &Pub) -> Outcome {
-        self.so_far.is_empty = false;
         let word = self.words.next_word();
         let outcome = self.hub.publish(conn, publication, word);
         self.so_far.count(issued_by(publication, outcome));
+        self.so_far.is_empty = false;
         outcome
     }
 
@@ -250,7 +273,9 @@ pub(crate) struct ClientLink {
 }
 
 /// What a run of calls has come to. A run that ends at what is for another place goes on there.
-fn ran_of(served: Served) -> Ran {
+fn ran_of(served: Served) -> Ran
+    ensures { result ≡ ran_behind served }
+{
     match served {
         Served::Waits => Ran::Waits,
         Served::Goes | Served::Elsewhere => Ran::Goes,
@@ -265,7 +290,9 @@ fn take_all<S: ShardCalls>(
     shard: &mut S,
     id: ConnId,
     waiting: &mut Vec<u8>,
-) -> Result<(), AllocError> {
+) -> Result<(), AllocError>
+    ensures { S.number shard.new ≡ S.number shard.old }
+{
     match shard.take_bytes(id, usize::MAX, waiting) {
         Err(Failure::OutOfMemory) => Err(AllocError),
         _ => Ok(()),
@@ -273,8 +300,11 @@ fn take_all<S: ShardCalls>(
 }
 
 /// Closes so many of a client's subscriptions, where it calls so many by a name that is known.
-fn close_some<S: ShardCalls>(shard: &mut S, id: ConnId, sids: &mut Sids, count: u64) {
-    for _sid in 0..count {
+#[tactic(auto, using(crate::proofs::HoldLemmas::no_more, crate::proofs::HoldLemmas::all_closed))]
+fn close_some<S: ShardCalls>(shard: &mut S, id: ConnId, sids: &mut Sids, count: u64)
+    ensures { Closes S.made id count (names_of sids.old) shard.old (names_of sids.new) shard.new }
+{
+    for _ in 0..count {
         let Some(sid) = sids.pop() else {
             return;
         };
@@ -283,7 +313,9 @@ fn close_some<S: ShardCalls>(shard: &mut S, id: ConnId, sids: &mut Sids, count: 
 }
 
 /// How a run of calls ended: also where there was no memory to read what is asked next.
-fn served_of(served: Result<Served, AllocError>) -> Served {
+fn served_of(served: Result<Served, AllocError>) -> Served
+    ensures { result ≡ served_or_short served }
+{
     match served {
         Ok(served) => served,
         Err(_) => Served::Short,
@@ -296,7 +328,11 @@ impl ClientLink {
         alloc: Global,
         shard: &mut S,
         server: &ServerInfo,
-    ) -> Result<ClientLink, Failure<Refusal>> {
+    ) -> Result<ClientLink, Failure<Refusal>>
+        ensures ok { IfOk result (λ link. (S.made shard.old (attached (Ok link.calls.id)) shard.new) × (link.calls.conn.asking ≡ first_asking (record { server = server.now; client_id = link.calls.id }))) }
+        ensures shard { IfOk result (λ link. (link.shard ≡ S.number shard.old) × (link.has_left ≡ false)) }
+        ensures err { IfErr result (λ failure. IsNotAttached S.made shard.old failure shard.new) }
+    {
         let number = shard.shard();
         match Calls::attach(alloc, shard, server) {
             Ok(calls) => Ok(ClientLink {
@@ -312,12 +348,16 @@ impl ClientLink {
     }
 
     /// Its number at the server.
-    pub fn id(&self) -> ConnId {
+    pub fn id(&self) -> ConnId
+        ensures { result ≡ self.now.calls.id }
+    {
         self.calls.id()
     }
 
     /// The client goes with all that waits for it, unless it has left.
-    pub fn detach<C: ServerCalls, R: Wait>(&self, rt: &R, node: C) -> Result<(), AllocError> {
+    pub fn detach<C: ServerCalls, R: Wait>(&self, rt: &R, node: C) -> Result<(), AllocError>
+        ensures { Detaches C.Shard.made C.Shard.number (C.lacks node) self.now.shard self.now.calls.id self.now.has_left result }
+    {
         if self.has_left {
             return Ok(());
         }
@@ -334,7 +374,10 @@ impl ClientLink {
         rt: &R,
         node: C,
         waiting: &mut Vec<u8>,
-    ) -> Result<(), AllocError> {
+    ) -> Result<(), AllocError>
+        ensures left { LeavesShard C.Shard.made C.Shard.number (C.lacks node) self.old.shard self.old.calls.id self.old.has_left result self.new.has_left }
+        ensures same { self.new ≡ record self.old { has_left = self.new.has_left } }
+    {
         match node.shard(rt, self.shard) {
             None => Ok(()),
             Some(mut shard) => self.leave_shard(&mut shard, waiting),
@@ -346,7 +389,10 @@ impl ClientLink {
         &mut self,
         shard: &mut S,
         waiting: &mut Vec<u8>,
-    ) -> Result<(), AllocError> {
+    ) -> Result<(), AllocError>
+        ensures ok { IfOk result (λ done. (there : _) × (S.number there ≡ S.number shard.old) × S.made there (detached self.old.calls.id (Ok done)) shard.new) }
+        ensures left { self.new ≡ record self.old { has_left = is_ok result || self.old.has_left } }
+    {
         take_all(shard, self.calls.id(), waiting)?;
         self.calls.detach(shard)?;
         self.has_left = true;
@@ -354,7 +400,10 @@ impl ClientLink {
     }
 
     /// Closes some of its subscriptions, where there are more than its server tells at once. Whether it did.
-    pub fn close_some<C: ServerCalls, R: Wait>(&mut self, rt: &R, node: C) -> bool {
+    pub fn close_some<C: ServerCalls, R: Wait>(&mut self, rt: &R, node: C) -> bool
+        ensures closed { ClosesSome C.Shard.made C.Shard.number (C.lacks node) self.old.shard self.old.calls.id self.old.has_left (names_of self.old.sids) result (names_of self.new.sids) }
+        ensures same { self.new ≡ record self.old { sids = self.new.sids } }
+    {
         if self.has_left || self.sids.len() as u64 <= SHARD_RUN {
             return false;
         }
@@ -366,11 +415,11 @@ impl ClientLink {
     }
 
     /// Reads once, at most so many bytes.
-    pub fn read_from<S: Source>(
-        &mut self,
-        source: &mut S,
-        most: usize,
-    ) -> Result<usize, ReadFault> {
+    pub fn read_from<S: Source>(&mut self, source: &mut S, most: usize) -> Result<usize, ReadFault>
+        ensures ok { IfOk result (λ n. HasRead self.old.calls.conn.asking self.new.calls.conn.asking (S.remaining source.old) (S.remaining source.new) most n) }
+        ensures err { OnErr result ((self.new.calls.conn.asking ≡ self.old.calls.conn.asking) × Keeps (S.remaining source.old) (S.remaining source.new)) }
+        ensures same { (self.new.calls.id ≡ self.old.calls.id) × (self.new.shard ≡ self.old.shard) × (self.new.has_left ≡ self.old.has_left) }
+    {
         self.calls.read_from(source, most)
     }
 
@@ -381,7 +430,10 @@ impl ClientLink {
         rt: &R,
         node: C,
         words: &mut Pcg64,
-    ) -> RunOutcome {
+    ) -> RunOutcome
+        ensures calls { Advances C.Shard.made C.Shard.number (C.lacks node) C.Hub.published C.Hub.pushed self.old.place self.new.place self.old.shard self.old.calls.id result.end self.old.calls.conn.asking self.new.calls.conn.asking }
+        ensures same { (self.new.calls.id ≡ self.old.calls.id) × (self.new.shard ≡ self.old.shard) × (self.new.has_left ≡ self.old.has_left) }
+    {
         let before = self.place;
         let run = self.run(rt, node, words);
         if run.is_empty && self.place != before {
@@ -392,7 +444,10 @@ impl ClientLink {
     }
 
     /// A run at the place where the next ask is asked first.
-    fn run<C: ServerCalls, R: Wait>(&mut self, rt: &R, node: C, words: &mut Pcg64) -> RunOutcome {
+    fn run<C: ServerCalls, R: Wait>(&mut self, rt: &R, node: C, words: &mut Pcg64) -> RunOutcome
+        ensures calls { RunsAt C.Shard.made C.Shard.number (C.lacks node) C.Hub.published C.Hub.pushed self.old.place self.new.place self.old.shard self.old.calls.id result.end self.old.calls.conn.asking self.new.calls.conn.asking }
+        ensures same { (self.new.calls.id ≡ self.old.calls.id) × (self.new.shard ≡ self.old.shard) × (self.new.has_left ≡ self.old.has_left) }
+    {
         match self.place {
             Place::Shard => self.ask(rt, node),
             Place::Hub => self.publish(rt, node, words),
@@ -400,28 +455,36 @@ impl ClientLink {
     }
 
     /// Publishes what is asked up to another ask, at most a window.
-    fn publish<C: ServerCalls, R: Wait>(
-        &mut self,
-        rt: &R,
-        node: C,
-        words: &mut Pcg64,
-    ) -> RunOutcome {
+    fn publish<C: ServerCalls, R: Wait>(&mut self, rt: &R, node: C, words: &mut Pcg64) -> RunOutcome
+        ensures calls { RunsAtHub C.Hub.published C.Hub.pushed self.old.place self.new.place self.old.calls.id result.end self.old.calls.conn.asking self.new.calls.conn.asking }
+        ensures same { (self.new.calls.id ≡ self.old.calls.id) × (self.new.shard ≡ self.old.shard) × (self.new.has_left ≡ self.old.has_left) }
+    {
         let own = Pcg64::from_state(words.state(), words.stream());
         let mut tally = HubTally::new(node.hub(rt), own);
-        let served = served_of(self.calls.serve(&mut tally, WINDOW));
-        let run = tally.run(ran_of(served));
+        let run = self.publish_held(&mut tally);
         if !run.is_empty {
             tally.hub.push_jobs(rt);
         }
         *words = tally.words;
-        if served == Served::Elsewhere {
-            self.place = Place::Shard;
-        }
         run
     }
 
+    /// Publishes to the hub, which is held, what is asked up to another ask.
+    fn publish_held<H: HubCalls>(&mut self, tally: &mut HubTally<H>) -> RunOutcome
+        ensures calls { RunsTo (MadeByHub H.published) self.old.calls.id WINDOW self.old.place Shard self.new.place result.end self.old.calls.conn.asking tally.old.hub self.new.calls.conn.asking tally.new.hub }
+        ensures empty { result.is_empty ≡ true → tally.new.hub ≡ tally.old.hub }
+        ensures same { (self.new.calls.id ≡ self.old.calls.id) × (self.new.shard ≡ self.old.shard) × (self.new.has_left ≡ self.old.has_left) }
+    {
+        let served = served_of(self.calls.serve(tally, WINDOW));
+        self.turn_to(Place::Shard, served);
+        tally.run(ran_of(served))
+    }
+
     /// Asks its shard, up to a publication.
-    fn ask<C: ServerCalls, R: Wait>(&mut self, rt: &R, node: C) -> RunOutcome {
+    fn ask<C: ServerCalls, R: Wait>(&mut self, rt: &R, node: C) -> RunOutcome
+        ensures calls { RunsAtShard C.Shard.made C.Shard.number self.old.place self.new.place self.old.shard self.old.calls.id result.end self.old.calls.conn.asking self.new.calls.conn.asking ⊎ HasNoShard (C.lacks node) self.old.place self.new.place self.old.shard result.end self.old.calls.conn.asking self.new.calls.conn.asking }
+        ensures same { (self.new.calls.id ≡ self.old.calls.id) × (self.new.shard ≡ self.old.shard) × (self.new.has_left ≡ self.old.has_left) }
+    {
         match node.shard(rt, self.shard) {
             None => RunOutcome::of(Ran::Refused),
             Some(shard) => {
@@ -433,14 +496,22 @@ impl ClientLink {
     }
 
     /// Asks its shard, which is held, up to a publication.
-    fn ask_held<S: ShardCalls>(&mut self, tally: &mut ShardTally<S>) -> RunOutcome {
+    fn ask_held<S: ShardCalls>(&mut self, tally: &mut ShardTally<S>) -> RunOutcome
+        ensures calls { RunsTo S.made self.old.calls.id SHARD_RUN self.old.place Hub self.new.place result.end self.old.calls.conn.asking tally.old.shard self.new.calls.conn.asking tally.new.shard }
+        ensures same { (self.new.calls.id ≡ self.old.calls.id) × (self.new.shard ≡ self.old.shard) × (self.new.has_left ≡ self.old.has_left) }
+    {
         let served = served_of(self.calls.serve(tally, SHARD_RUN));
-        let mut run = tally.run(ran_of(served));
-        run.has_deltas = !run.is_empty && tally.shard.has_deltas();
+        self.turn_to(Place::Hub, served);
         std::mem::swap(&mut self.sids, &mut tally.sids);
+        tally.run(ran_of(served))
+    }
+
+    /// The next ask is asked first at this place, where a run has ended at one that is for elsewhere.
+    fn turn_to(&mut self, place: Place, served: Served)
+        ensures { self.new ≡ record self.old { place = next_place self.old.place place served } }
+    {
         if served == Served::Elsewhere {
-            self.place = Place::Hub;
+            self.place = place;
         }
-        run
     }
 }

@@ -1,8 +1,9 @@
 //! A connection of a server: its stream, and what is read of it and written to it.
 
-ghost use Rattle.std.specs.Prelude.{◌≡◌, ◌↔◌, ◌-◌, ◌^◌, min, if◌then◌else◌, true, false, ◌||◌, nat_lt, [], length, IsTrue};
+ghost use Rattle.std.specs.Prelude.{◌≡◌, ◌↔◌, ◌-◌, ◌^◌, min, if◌then◌else◌, true, false, ◌||◌, nat_lt, [], length, IfSome, IsTrue};
 ghost use Rattle.std.specs.Bool.{OnTrue, OnFalse};
 ghost use Rattle.net_streams.specs.Writes.{HasWritten};
+ghost use Rattle.node_net.specs.Holds.{LinkAdvances, LinkDetaches};
 ghost use Rattle.node_net.specs.Sending.{Sends, KeepsOrLoses, out_of_memory, closed_if_written};
 
 use crate::client_link::ClientLink;
@@ -281,7 +282,9 @@ impl<S: Stream> Connection<S> {
         node: C,
         life: &Life,
         words: &mut Pcg64,
-    ) -> Option<Stepped> {
+    ) -> Option<Stepped>
+        ensures client { IfSome result (λ stepped. LinkAdvances C.Shard.made C.Shard.number (C.lacks node) C.Hub.published C.Hub.pushed self.old.link stepped self.new.link) }
+    {
         if self.ending() != Ending::Open || self.is_proving() {
             return None;
         }
@@ -429,10 +432,11 @@ impl<S: Stream> Connection<S> {
         self.deadline = self.deadline.min(deadline);
     }
 
-    /// Its session is kept: it is not given up for having none.
+    /// Its session is kept: it is not given up for having none. Its stream is connected by then, whether the loop was told so or not.
     pub fn lift_limit(&mut self)
-        ensures { self.new.deadline ≡ 2 ^ 64 - 1 }
+        ensures { self.new ≡ record self.old { awaits_stream = false; deadline = 2 ^ 64 - 1 } }
     {
+        self.awaits_stream = false;
         self.deadline = u64::MAX;
     }
 
@@ -535,7 +539,9 @@ impl<S: Stream> Connection<S> {
     }
 
     /// A client is detached, the session of a route is cut. Want of memory changes nothing.
-    pub fn detach<C: ServerCalls, R: Wait>(&self, rt: &R, node: C) -> Result<(), AllocError> {
+    pub fn detach<C: ServerCalls, R: Wait>(&self, rt: &R, node: C) -> Result<(), AllocError>
+        ensures client { LinkDetaches C.Shard.made C.Shard.number (C.lacks node) self.now.link result }
+    {
         match &self.link {
             Link::Client(client) => client.detach(rt, node),
             Link::Route(route) => {

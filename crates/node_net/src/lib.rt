@@ -16,7 +16,7 @@
 //! them and lets them go, and finds those of clients (`clients`) and of other servers (`peers`); `turning` and `flushing` are a turn of its loop,
 //! by what was `taken` for clients, `draining` is what a server that drains does, and `running` is the loop, which reaches other servers at their
 //! `addresses`, and is told by operators over a `control` socket. `shutdown` says when the loop ends, and which server drains, the `limits`
-//! when and how much of everything, and `faults` why no stream is taken.
+//! when and how much of everything, and `faults` why no stream is taken. `turns` says that the turns of a client are runs of its life.
 #![tactic(auto)]
 
 mod addresses;
@@ -41,6 +41,7 @@ mod server;
 mod shutdown;
 mod taken;
 mod turning;
+mod turns;
 
 pub use addresses::PeerAddresses;
 pub use control::{Control, DRAIN, DRAINS, NO_SERVER};
@@ -50,3 +51,4 @@ pub use net_streams::{MemStream, Stream, StreamFault};
 pub use running::{Sockets, WAKER};
 pub use server::{Server, Side, shard_of_client};
 pub use shutdown::{ServerControl, Shutdown};
+pub use turns::turns_are_served;

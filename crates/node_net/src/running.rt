@@ -487,14 +487,17 @@ impl<C: ServerCalls> Server<TcpStream, C> {
         }
     }
 
-    /// Has the system tell when a connection is ready, and end a route whose other end answers nothing any more. Whether it does.
+    /// Has the system tell when a connection is ready; whether it does. It is also to end a route whose other end answers nothing any more: a
+    /// system that does not leaves a route as it was, and a lost server is noticed later.
     fn watch(&mut self, poll: &Poll, key: usize, side: Side) -> bool {
         let both = Interest::READABLE | Interest::WRITABLE;
         let Some(stream) = self.stream_mut(key) else {
             return false;
         };
-        let is_heard = is_client(side) || end_unanswered(&*stream, UNANSWERED, ASKED_EVERY);
-        is_heard && poll.registry().register(stream, Token(key), both).is_ok()
+        if !is_client(side) {
+            let _ = end_unanswered(&*stream, UNANSWERED, ASKED_EVERY);
+        }
+        poll.registry().register(stream, Token(key), both).is_ok()
     }
 
     /// Dials the servers of the cluster that are not reached and are due.

@@ -1,5 +1,7 @@
 //! What a link has come to, after a run of what it asks.
 
+ghost use Rattle.std.specs.Prelude.{◌≡◌};
+
 use crate::limits::MESSAGE_COST;
 
 /// As how many bytes a message counts whose header block and payload have so many; an answer counts as one of none.
@@ -46,7 +48,9 @@ pub(crate) struct RunOutcome {
 
 impl RunOutcome {
     /// A run that has done nothing else.
-    pub fn of(end: Ran) -> RunOutcome {
+    pub fn of(end: Ran) -> RunOutcome
+        ensures { result.end ≡ end }
+    {
         RunOutcome {
             end,
             issued: 0,

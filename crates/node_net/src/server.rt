@@ -1,7 +1,9 @@
 //! The connections of one server, over any kind of stream.
 
 ghost use Rattle.std.specs.Prelude.{◌≡◌, ◌≤◌, ◌+◌, ◌-◌, ◌%◌, None, OnOk, OnErr};
-ghost use Rattle.slab.specs.Slab.{Updates};
+ghost use Rattle.std.specs.Prelude.{IfSome, Ok};
+ghost use Rattle.node_net.specs.Holds.{LinkDetaches};
+ghost use Rattle.slab.specs.Slab.{Updates, get};
 
 use crate::client_link::ClientLink;
 use crate::clients::Clients;
@@ -307,6 +309,7 @@ impl<S: Stream, C: ServerCalls> Server<S, C> {
     /// changes. Gives its stream, which is closed when it is dropped, or None where there is no connection
     /// of that key. Want of memory changes nothing. May wait.
     pub fn remove<R: Wait>(&mut self, rt: &R, key: usize) -> Result<Option<S>, AllocError>
+        ensures detached { OnOk result (IfSome (get self.old.connections.table key) (λ connection. LinkDetaches C.Shard.made C.Shard.number (C.lacks self.old.node) connection.link (Ok tt))) }
         ensures taken { OnOk result (Updates self.old.connections.table self.new.connections.table key None) }
         ensures err { OnErr result (self.new ≡ self.old) }
     {

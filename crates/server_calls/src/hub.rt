@@ -1,5 +1,9 @@
 //! The calls of a hub that is held.
 
+ghost use Rattle.std.specs.Prelude.{ℕ};
+ghost use Rattle.subj.specs.declared.messages.Pub.{Pub};
+ghost use Rattle.client_calls.specs.declared.outcome.Outcome.{Outcome};
+
 use client_calls::Outcome;
 use hub_core::HubFault;
 use route_session::{SessionFault, SessionId};
@@ -9,15 +13,23 @@ use subj::{ConnId, Failure, Pub};
 
 /// A hub that is held until this is let go: no one else makes a call of it meanwhile.
 pub trait HubCalls: Drop {
+    // From the first state this connection's publication was made, by this word; it came to this, and left the second.
+    ghost published: { Self → ℕ → Pub → ℕ → Outcome → Self → Type 0 };
+
+    // From the first state the jobs were handed to the shards, and left the second.
+    ghost pushed: { Self → Self → Type 0 };
+
     /// Publishes for a client; the word decides who serves each queue group. Too many publications under way are
     /// [`Refusal::Busy`](client_conn::Refusal::Busy). [`HubCalls::push_jobs`] hands the job to the shards.
-    fn publish(&mut self, conn: ConnId, publication: &Pub, word: u64) -> Outcome;
+    fn publish(&mut self, conn: ConnId, publication: &Pub, word: u64) -> Outcome
+        ensures { published self.old conn publication.now word result self.new };
 
     /// Takes a frame of another server. [`HubCalls::push_jobs`] hands the job of a message to the shards.
     fn receive(&mut self, frame: &Numbered) -> Result<(), Failure<HubFault>>;
 
     /// Hands the jobs to the shards. May wait.
-    fn push_jobs<R: Wait>(&mut self, rt: &R);
+    fn push_jobs<R: Wait>(&mut self, rt: &R)
+        ensures { pushed self.old self.new };
 
     /// A session with a server that has dialed, and what that is told first.
     fn accept(&mut self) -> Result<(SessionId, RouteInfo), Failure<SessionFault>>;

@@ -1,5 +1,7 @@
 //! A server of one hub and some shards.
 
+ghost use Rattle.std.specs.Prelude.{◌≡◌, ℕ, IfSome, IfNone};
+
 use crate::hub::HubCalls;
 use crate::shard::ShardCalls;
 use hub_core::CollectResult;
@@ -20,8 +22,13 @@ pub trait ServerCalls: Copy {
     /// How many shards it has.
     fn shards(&self) -> u64;
 
+    // It has answered that it has no shard of this number.
+    ghost lacks: { Self → ℕ → Type 0 };
+
     /// Holds the shard of this number, from 1. None where there is no such shard. May wait.
-    fn shard<R: Wait>(&self, rt: &R, number: u64) -> Option<Self::Shard>;
+    fn shard<R: Wait>(&self, rt: &R, number: u64) -> Option<Self::Shard>
+        ensures some { IfSome result (λ held. Self.Shard.number held ≡ number) }
+        ensures none { IfNone result (lacks self.now number) };
 
     /// Holds the hub. May wait.
     fn hub<R: Wait>(&self, rt: &R) -> Self::Hub;

@@ -1,12 +1,14 @@
 //! The calls of a shard that is held.
 
+ghost use Rattle.std.specs.Prelude.{◌≡◌, ℕ};
+
 use client_calls::ClientCalls;
 use shard_core::{DirtyConns, ShardFault};
 use std::sync::Wait;
 use subj::{ConnId, Failure};
 
 /// What became of the next job of a shard.
-#[derive(Clone, Copy, Debug, PartialEq, Eq)]
+#[derive(Clone, Copy, PartialEq, Eq)]
 pub enum NextJob {
     /// It was worked to its end.
     Worked,
@@ -20,8 +22,12 @@ pub enum NextJob {
 ///
 /// It answers a publication with [`Outcome::Elsewhere`](client_calls::Outcome::Elsewhere).
 pub trait ShardCalls: ClientCalls + Drop {
+    // Which shard it is.
+    ghost number: { Self → ℕ };
+
     /// Which shard it is, counted from 1.
-    fn shard(&self) -> u64;
+    fn shard(&self) -> u64
+        ensures { result ≡ number self.now };
 
     /// Works its next job. May wait.
     fn work_next<R: Wait>(&mut self, rt: &R) -> NextJob;
@@ -38,7 +44,8 @@ pub trait ShardCalls: ClientCalls + Drop {
         conn: ConnId,
         count: usize,
         out: &mut Vec<u8>,
-    ) -> Result<usize, Failure<ShardFault>>;
+    ) -> Result<usize, Failure<ShardFault>>
+        ensures { number self.new ≡ number self.old };
 
     /// Whether the client's connection stands and is not shut.
     fn is_open(&self, conn: ConnId) -> bool;

@@ -1,5 +1,7 @@
 //! A server whose lanes take nothing for a while, as where there is no memory.
 
+ghost use Rattle.std.specs.Prelude.{⊤};
+
 use client_calls::Outcome;
 use hub_core::{CollectResult, HubFault};
 use route_session::{SessionFault, SessionId};
@@ -35,6 +37,11 @@ impl<C: ServerCalls> LanedNode<C> {
 }
 
 impl<'n, H: HubCalls> HubCalls for LanedHub<'n, H> {
+    ghost published = { λ before conn publication word came after. H.published before.hub conn publication word came after.hub };
+
+    // Now and then none are.
+    ghost pushed = { λ _ _. ⊤ };
+
     fn publish(&mut self, conn: ConnId, publication: &Pub, word: u64) -> Outcome {
         self.hub.publish(conn, publication, word)
     }
@@ -93,6 +100,8 @@ impl<'n, C: ServerCalls> ServerCalls for &'n LanedNode<C> {
     type Shard = C::Shard;
 
     type Hub = LanedHub<'n, C::Hub>;
+
+    ghost lacks = { λ laned number. C.lacks laned.now.node number };
 
     fn shards(&self) -> u64 {
         let laned: &'n LanedNode<C> = *self;

@@ -1,3 +1,4 @@
 pub mod Starting
 pub mod Draining
 pub mod Telling
+pub mod Holding

@@ -6,3 +6,5 @@ pub mod Refusing
 pub mod HubTapes
 -- a drain of the hub and of each shard
 pub mod Drains
+-- what the calls of a shard and of the hub do that are held
+pub mod Held

@@ -1,6 +1,8 @@
 //! The calls that the connections of a server make of it: of its shards and its hub, each while its lock is held.
 
-ghost use Rattle.std.specs.Prelude.{⊤};
+ghost use Rattle.std.specs.Prelude.{◌≡◌, ⊤, IfOk};
+ghost use Rattle.std.specs.Sync.Mutex.{mutex_guard_value};
+ghost use Rattle.thread_node.specs.Held.{came_to, was_decided, was_replied, was_published, not_attached, MadeByHub, MadeByShard};
 
 use crate::locked_hub::LockedHub;
 use crate::locked_shard::LockedShard;
@@ -11,11 +13,12 @@ use client_frames::{ErrText, ReplyFrame};
 use client_refusals::{refusal_of_hub, refusal_of_shard};
 use hub_core::{CollectResult, HubFault};
 use node_law::NodeFault;
+use node_parts::Issued;
 use node_threads::{NodeName, Open, Turned};
 use route_session::{SessionFault, SessionId};
 use route_values::{Numbered, RouteConnect, RouteInfo};
 use server_calls::{HubCalls, NextJob, ServerCalls, ShardCalls};
-use shard_core::{DirtyConns, ShardFault};
+use shard_core::{Closed, DirtyConns, ShardFault};
 use std::alloc::{AllocError, Global};
 use std::sync::Wait;
 use sub_table::SubTable;
@@ -34,7 +37,9 @@ pub struct HeldHub<'n, N: NodeName> {
 }
 
 /// What a call of a shard came to.
-fn outcome_of<X: Drop>(done: Result<X, Failure<ShardFault>>) -> Outcome {
+fn outcome_of<X: Drop>(done: Result<X, Failure<ShardFault>>) -> Outcome
+    ensures { result ≡ came_to done }
+{
     match done {
         Ok(_) => Outcome::Done,
         Err(Failure::Refused(fault)) => Outcome::Refused(refusal_of_shard(fault)),
@@ -43,15 +48,42 @@ fn outcome_of<X: Drop>(done: Result<X, Failure<ShardFault>>) -> Outcome {
 }
 
 /// The same of a call that takes no memory.
-fn outcome_of_decision<X: Drop>(done: Result<X, ShardFault>) -> Outcome {
+fn outcome_of_decision<X: Drop>(done: Result<X, ShardFault>) -> Outcome
+    ensures { result ≡ was_decided done }
+{
     match done {
         Ok(_) => Outcome::Done,
         Err(fault) => Outcome::Refused(refusal_of_shard(fault)),
     }
 }
 
+/// The same of a reply, by which the connection may be shut.
+fn outcome_of_reply(done: Result<Closed, Failure<ShardFault>>) -> Outcome
+    ensures { result ≡ was_replied done }
+{
+    match done {
+        Ok(closed) if closed.shut => Outcome::Shut,
+        Ok(_) => Outcome::Done,
+        Err(Failure::Refused(fault)) => Outcome::Refused(refusal_of_shard(fault)),
+        Err(Failure::OutOfMemory) => Outcome::Short,
+    }
+}
+
+/// What a publication made of the hub came to.
+fn outcome_of_publish(done: Result<Issued, Failure<HubFault>>) -> Outcome
+    ensures { result ≡ was_published done }
+{
+    match done {
+        Ok(_) => Outcome::Done,
+        Err(Failure::Refused(fault)) => Outcome::Refused(refusal_of_hub(fault)),
+        Err(Failure::OutOfMemory) => Outcome::Short,
+    }
+}
+
 /// Copies of what opens a subscription.
-fn copies_of(alloc: Global, key: &Key, sid: &Sid) -> Result<(Key, Sid), AllocError> {
+fn copies_of(alloc: Global, key: &Key, sid: &Sid) -> Result<(Key, Sid), AllocError>
+    ensures { IfOk result (λ copies. (copies.0 ≡ key.now) × (copies.1 ≡ sid.now)) }
+{
     let key = key.try_clone(alloc)?;
     let sid = sid.try_clone(alloc)?;
     Ok((key, sid))
@@ -84,16 +116,18 @@ fn drained(
 }
 
 /// A refusal of a shard, as a client is told of it.
-fn refused(fault: Failure<ShardFault>) -> Failure<Refusal> {
+fn refused(fault: Failure<ShardFault>) -> Failure<Refusal>
+    ensures { result ≡ not_attached fault }
+{
     match fault {
         Failure::Refused(fault) => Failure::Refused(refusal_of_shard(fault)),
         Failure::OutOfMemory => Failure::OutOfMemory,
     }
 }
 
-// What a call made of the state is not told yet: each contract of a call of `LockedShard` says it, and can be told here.
+// Each call is what the contract of `LockedShard` says of it, of the shard under the lock.
 impl<'n, T: SubTable, N: NodeName> ClientCalls for HeldShard<'n, T, N> {
-    ghost made = { λ _ _ _. ⊤ };
+    ghost made = { λ before called after. MadeByShard (mutex_guard_value before.guard) called (mutex_guard_value after.guard) };
 
     fn attach(&mut self) -> Result<ConnId, Failure<Refusal>> {
         let shard = &mut *self.guard;
@@ -105,10 +139,7 @@ impl<'n, T: SubTable, N: NodeName> ClientCalls for HeldShard<'n, T, N> {
 
     fn reply(&mut self, conn: ConnId, frame: &ReplyFrame) -> Outcome {
         let shard = &mut *self.guard;
-        match shard.reply(conn, frame) {
-            Ok(closed) if closed.shut => Outcome::Shut,
-            done => outcome_of(done),
-        }
+        outcome_of_reply(shard.reply(conn, frame))
     }
 
     fn set_headers(&mut self, conn: ConnId, on: bool) -> Outcome {
@@ -151,6 +182,8 @@ impl<'n, T: SubTable, N: NodeName> ClientCalls for HeldShard<'n, T, N> {
 }
 
 impl<'n, T: SubTable, N: NodeName> ShardCalls for HeldShard<'n, T, N> {
+    ghost number = { λ held. (mutex_guard_value held.guard).part.shard };
+
     fn shard(&self) -> u64 {
         self.guard.shard()
     }
@@ -192,14 +225,15 @@ impl<'n, T: SubTable, N: NodeName> ShardCalls for HeldShard<'n, T, N> {
     }
 }
 
+// A publication is what the contract of `LockedHub` says of it, of the hub under the lock; the lanes of the shards are not seen.
 impl<'n, N: NodeName> HubCalls for HeldHub<'n, N> {
+    ghost published = { λ before conn publication word came after. MadeByHub N.race.shards (mutex_guard_value before.guard) conn publication word came (mutex_guard_value after.guard) };
+
+    ghost pushed = { λ before after. mutex_guard_value after.guard ≡ mutex_guard_value before.guard };
+
     fn publish(&mut self, conn: ConnId, publication: &Pub, word: u64) -> Outcome {
         let hub = &mut *self.guard;
-        match hub.publish(conn, publication, word) {
-            Ok(_) => Outcome::Done,
-            Err(Failure::Refused(fault)) => Outcome::Refused(refusal_of_hub(fault)),
-            Err(Failure::OutOfMemory) => Outcome::Short,
-        }
+        outcome_of_publish(hub.publish(conn, publication, word))
     }
 
     fn receive(&mut self, frame: &Numbered) -> Result<(), Failure<HubFault>> {
@@ -264,10 +298,13 @@ impl<'n, N: NodeName> HubCalls for HeldHub<'n, N> {
     }
 }
 
+// No clause says which shard stands under which lock: each hold asks the shard that it finds there.
 impl<'n, T: SubTable, N: NodeName> ServerCalls for &'n ThreadNode<T, N> {
     type Shard = HeldShard<'n, T, N>;
 
     type Hub = HeldHub<'n, N>;
+
+    ghost lacks = { λ _ _. ⊤ };
 
     fn shards(&self) -> u64 {
         let node: &'n ThreadNode<T, N> = *self;
@@ -277,7 +314,11 @@ impl<'n, T: SubTable, N: NodeName> ServerCalls for &'n ThreadNode<T, N> {
     fn shard<R: Wait>(&self, rt: &R, number: u64) -> Option<HeldShard<'n, T, N>> {
         let node: &'n ThreadNode<T, N> = *self;
         let guard = node.shard(rt, number)?;
-        Some(HeldShard { guard })
+        if guard.shard() == number {
+            Some(HeldShard { guard })
+        } else {
+            None
+        }
     }
 
     fn hub<R: Wait>(&self, rt: &R) -> HeldHub<'n, N> {
