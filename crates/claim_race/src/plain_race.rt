@@ -14,7 +14,7 @@ use subj::{Busy, MAX_QUEUE_NAMES, Turn, WINDOW};
 const PLACES: usize = (WINDOW * MAX_QUEUE_NAMES) as usize;
 
 /// How far a shard has come.
-#[derive(Clone, Copy, Debug)]
+#[derive(Clone, Copy)]
 struct Progress {
     /// The last turn that it finished.
     finished: Turn,
@@ -23,7 +23,7 @@ struct Progress {
 }
 
 /// The last claim that was won at a place of the table.
-#[derive(Clone, Copy, Debug)]
+#[derive(Clone, Copy)]
 struct Claimed {
     turn: Turn,
     index: u64,
@@ -32,7 +32,7 @@ struct Claimed {
 
 /// A race that keeps who won in a table with a place for each pair of the window: turns that are a
 /// window apart share their places.
-#[derive(Debug, Drop)]
+#[derive(Drop)]
 pub struct PlainRace {
     issued: Turn,
     progress: Vec<Progress>,

@@ -4,7 +4,7 @@ use shard_core::Placed;
 use subj::{ConnId, Incarnation, Key, Message, PubId, Sid, SubId};
 
 /// A publish that a server accepted.
-#[derive(Debug, Drop)]
+#[derive(Drop)]
 pub struct Publication {
     /// The step that accepted it.
     pub step: u64,
@@ -19,7 +19,7 @@ pub struct Publication {
 }
 
 /// A subscription in the whole cluster.
-#[derive(Clone, Copy, Debug, PartialEq, Eq)]
+#[derive(Clone, Copy, PartialEq, Eq)]
 pub struct LifeId {
     /// The place of its server.
     pub node: usize,
@@ -30,7 +30,7 @@ pub struct LifeId {
 }
 
 /// A subscription from its opening on.
-#[derive(Debug, Drop)]
+#[derive(Drop)]
 pub struct Life {
     /// What it is called.
     pub id: LifeId,
@@ -61,7 +61,7 @@ pub struct Placements {
 }
 
 /// An incarnation that was started at a server.
-#[derive(Clone, Copy, Debug, PartialEq, Eq)]
+#[derive(Clone, Copy, PartialEq, Eq)]
 pub(crate) struct Started {
     pub(crate) node: usize,
     pub(crate) inc: Incarnation,

@@ -7,7 +7,7 @@ use std::alloc::Global;
 use subj::Job;
 
 /// What becomes of a frame that is taken.
-#[derive(Debug, Drop)]
+#[derive(Drop)]
 pub enum Received {
     /// The job of a message, with the queue names that its origin picked this server for.
     Routed(Job),
@@ -16,7 +16,7 @@ pub enum Received {
 }
 
 /// What was told of deltas that were counted.
-#[derive(Debug, Drop)]
+#[derive(Drop)]
 pub struct CollectResult {
     /// The changes that the peers are told, in their order.
     pub changes: Vec<Change>,

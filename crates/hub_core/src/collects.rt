@@ -14,7 +14,7 @@ use std::alloc::{AllocError, Global};
 use subj::{ROUTE_FRAMES, ServerIdentity};
 
 /// What a collect does, found before anything is changed.
-#[derive(Debug, Drop)]
+#[derive(Drop)]
 pub struct CollectPlan {
     /// What it makes of the counts.
     pub recount: Recount,

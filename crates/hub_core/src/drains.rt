@@ -15,7 +15,7 @@ use route_values::Numbered;
 use subj::{Failure, MAX_COUNTER};
 
 /// What a drain does, found before anything is changed.
-#[derive(Debug, Drop)]
+#[derive(Drop)]
 pub struct DrainPlan {
     /// The frames that tell the peers that there is no interest any more.
     pub frames: Vec<Numbered>,

@@ -26,7 +26,7 @@ use subj::{
 };
 
 /// What a publish owes, found before anything is changed.
-#[derive(Debug, Drop)]
+#[derive(Drop)]
 pub struct PublishPlan {
     /// The job of the server's own shards.
     pub job: Job,

@@ -4,7 +4,7 @@ use route_values::WeightedKey;
 use subj::Key;
 
 /// What the other servers are told. (NATS documentation, "Cluster Protocol": `RS+` and `RS-`.)
-#[derive(Debug, Drop)]
+#[derive(Drop)]
 pub enum Change {
     /// The key is there. It weighs 1 where it has no queue name, and else the number of its open
     /// subscriptions.

@@ -97,7 +97,7 @@ fn weight_among(entries: &[(Key, u64)], subject: &Subject, name: &QueueName) -> 
 /// Seen as the list of the keys with an open subscription, each with the number of them, in the order
 /// of [`Key::order`]. It has at most [`MAX_KEYS`] keys, at most [`MAX_WEIGHT`] open subscriptions of
 /// each, and its keys count at most [`SUBSCRIPTION_BYTES`] together by [`Key::cost`]. (Profile.)
-#[derive(Debug, Drop)]
+#[derive(Drop)]
 pub struct Local {
     pub(crate) alloc: Global,
     /// It has taken the memory for [`MAX_KEYS`] keys when it was made.

@@ -12,7 +12,7 @@ use std::marker::Model;
 use subj::Key;
 
 /// A key, compared by [`Key::order`].
-#[derive(Debug, Drop)]
+#[derive(Drop)]
 pub(crate) struct OrderedKey {
     key: Key,
 }

@@ -15,7 +15,7 @@ use subj::Key;
 pub(crate) type Entry = (Key, u64);
 
 /// What deltas make of counts, found before anything is changed.
-#[derive(Debug, Drop)]
+#[derive(Drop)]
 pub enum Recount {
     /// Few deltas are counted one by one: the keys that they open and that had no open subscription, in
     /// order.
@@ -25,7 +25,7 @@ pub enum Recount {
 }
 
 /// What many deltas make of counts.
-#[derive(Debug, Drop)]
+#[derive(Drop)]
 pub struct Numbers {
     /// The number of each key that they tell of, as it is after all of them.
     pub(crate) numbers: BTreeMap<OrderedKey, u64>,

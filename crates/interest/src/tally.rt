@@ -81,7 +81,7 @@ fn changes_told(delta: &Delta, number: u64) -> u64
 const FEW: usize = 16;
 
 /// What deltas do, found before anything is changed.
-#[derive(Debug, Drop)]
+#[derive(Drop)]
 pub struct DeltaPlan {
     /// What they make of the counts.
     pub recount: Recount,

@@ -107,7 +107,7 @@ fn is_as_counted(weighted: &WeightedKey, entry: &(Key, u64)) -> bool
 /// of [`Key::order`], and the number of the last change that they stand for. (Profile.)
 ///
 /// Seen as these. There are at most [`MAX_KEYS`] keys.
-#[derive(Debug, Drop)]
+#[derive(Drop)]
 pub struct View {
     mark: u64,
     keys: Vec<WeightedKey>,

@@ -28,7 +28,7 @@ pub enum ConnEvent {
 }
 
 /// What a shard is asked to do.
-#[derive(Clone, Copy, Debug, PartialEq, Eq)]
+#[derive(Clone, Copy, PartialEq, Eq)]
 pub enum ShardWork {
     /// Makes a connection.
     Attach,

@@ -3,7 +3,7 @@
 use subj::Turn;
 
 /// A publication that was issued.
-#[derive(Clone, Copy, Debug, PartialEq, Eq)]
+#[derive(Clone, Copy, PartialEq, Eq)]
 pub struct Issued {
     /// The turn of its job.
     pub turn: Turn,
@@ -12,7 +12,7 @@ pub struct Issued {
 }
 
 /// What has become of a frame of a peer.
-#[derive(Clone, Copy, Debug, PartialEq, Eq)]
+#[derive(Clone, Copy, PartialEq, Eq)]
 pub enum Received {
     /// Of a message, the turn of its job.
     Routed(Turn),
@@ -21,7 +21,7 @@ pub enum Received {
 }
 
 /// What the peers were told of a shard's subscriptions.
-#[derive(Debug, Drop)]
+#[derive(Drop)]
 pub struct CollectResult {
     /// How many changes of interest.
     pub changes: usize,

@@ -9,7 +9,7 @@ use subj::Incarnation;
 /// What a completed session is, to tell which of two with one peer is the better one. (Profile.)
 ///
 /// Seen as its fields.
-#[derive(Clone, Copy, Debug)]
+#[derive(Clone, Copy)]
 pub struct Offer {
     /// The place of the peer.
     pub peer: usize,

@@ -14,7 +14,7 @@ use subj::Incarnation;
 /// A session that stands.
 ///
 /// Seen as its fields.
-#[derive(Clone, Copy, Debug)]
+#[derive(Clone, Copy)]
 pub struct Session {
     /// Its number.
     pub number: u64,

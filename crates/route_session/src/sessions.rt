@@ -46,7 +46,7 @@ fn own_connect(server: &ServerIdentity, info: &RouteInfo, serial: u64) -> RouteC
 }
 
 /// What a session that is kept took the place of.
-#[derive(Clone, Copy, Debug, PartialEq, Eq)]
+#[derive(Clone, Copy, PartialEq, Eq)]
 pub struct Kept {
     /// The session that was kept for the peer before, and stands no more.
     pub instead_of: Option<SessionId>,

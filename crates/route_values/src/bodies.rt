@@ -8,7 +8,7 @@ use subj::{Key, Message, QueueNames};
 
 /// What a numbered frame says. (NATS documentation, "Cluster Protocol": `RS+`, `RS-`, `RMSG`;
 /// snapshots, and `RHMSG` for a publication with headers: profile.)
-#[derive(Debug, Drop)]
+#[derive(Drop)]
 pub enum Body {
     /// A key is there, or has another weight now.
     Plus(WeightedKey),

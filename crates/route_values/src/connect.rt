@@ -9,7 +9,7 @@ use subj::{Incarnation, MAX_COUNTER, NodeId};
 /// What the dialing side of a route answers: who it is, whom it dialed and in which incarnation it
 /// takes it to be, and the serial of the dial, 1 to [`MAX_COUNTER`]. (Profile; the operation is that of
 /// the NATS documentation, "Cluster Protocol": `CONNECT`.)
-#[derive(Clone, Copy, Debug, PartialEq, Eq)]
+#[derive(Clone, Copy, PartialEq, Eq)]
 pub struct RouteConnect {
     server_name: NodeId,
     inc: Incarnation,

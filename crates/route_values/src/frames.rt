@@ -21,7 +21,7 @@ fn is_number(number: u64, body: &Body) -> bool
 /// the interest change. (Profile.)
 ///
 /// The number is 1 to [`MAX_COUNTER`]; that of a snapshot may be 0.
-#[derive(Debug, Drop)]
+#[derive(Drop)]
 pub struct Numbered {
     from: NodeId,
     inc: Incarnation,
@@ -135,7 +135,7 @@ impl Numbered {
 }
 
 /// A frame of a route: it can hold nothing that can't be spelt. (Profile.)
-#[derive(Debug, Drop)]
+#[derive(Drop)]
 pub enum RouteFrame {
     /// The first frame of the accepting side.
     Info(RouteInfo),

@@ -7,7 +7,7 @@ use subj::{Incarnation, NodeId};
 
 /// What the accepting side of a route tells first: its name and its incarnation. (Profile; the
 /// operation is that of the NATS documentation, "Cluster Protocol": `INFO`.)
-#[derive(Clone, Copy, Debug, PartialEq, Eq)]
+#[derive(Clone, Copy, PartialEq, Eq)]
 pub struct RouteInfo {
     server_name: NodeId,
     inc: Incarnation,

@@ -15,7 +15,7 @@ use subj::{Key, MAX_SNAPSHOT, MAX_WEIGHT, QueueName};
 /// for one with a queue name. (Profile.)
 ///
 /// Seen as the pair of the key and the weight.
-#[derive(Debug, Drop)]
+#[derive(Drop)]
 pub struct WeightedKey {
     key: Key,
     weight: u64,
@@ -216,7 +216,7 @@ fn are_rising(keys: &[WeightedKey]) -> bool
 /// pattern, or its pattern, its queue name and its weight with one space between them. (Profile.)
 ///
 /// Seen as the list of the keys with their weights.
-#[derive(Debug, Drop)]
+#[derive(Drop)]
 pub struct SnapshotKeys {
     keys: Vec<WeightedKey>,
 }

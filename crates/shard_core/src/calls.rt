@@ -3,10 +3,9 @@
 use crate::faults::ShardFault;
 use outbox::Entry;
 use subj::{ConnId, Failure, Job, SubId};
-use thiserror::Error;
 
 /// What a subscribe did.
-#[derive(Clone, Copy, Debug, PartialEq, Eq)]
+#[derive(Clone, Copy, PartialEq, Eq)]
 pub enum Subscribed {
     /// It opened this subscription.
     New(SubId),
@@ -56,8 +55,7 @@ pub struct Candidate {
 }
 
 /// A job that was not begun, as it was handed in.
-#[derive(Debug, Drop, Error)]
-#[error("the job was not begun: {cause}")]
+#[derive(Drop)]
 pub struct BeginFault {
     pub job: Job,
     pub cause: Failure<ShardFault>,

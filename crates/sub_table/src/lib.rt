@@ -16,7 +16,7 @@ use std::alloc::{AllocError, Global};
 use subj::{ConnId, Key, Sid, Subject};
 
 /// An open subscription. (NATS documentation, "Client Protocol": `SUB`.)
-#[derive(Debug, Drop)]
+#[derive(Drop)]
 pub struct Subscription {
     /// Its place in the order of opening, counted from 1 in each shard.
     pub serial: u64,

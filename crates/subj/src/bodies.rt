@@ -40,7 +40,7 @@ fn join(alloc: Global, block: &[u8], payload: &[u8]) -> Result<Bytes, AllocError
 }
 
 /// A header block and the payload behind it, in one piece of memory.
-#[derive(Debug, Drop)]
+#[derive(Drop)]
 pub(crate) struct Headed {
     pub(crate) whole: Bytes,
     /// How many bytes the block has.
@@ -51,7 +51,7 @@ pub(crate) struct Headed {
 /// "Client Protocol": `PUB`, `HPUB`.)
 ///
 /// Both together have at most [`MAX_PAYLOAD`] bytes. They are shared with the bytes that they were made of, and are never copied.
-#[derive(Debug, Drop)]
+#[derive(Drop)]
 pub struct MessageBody {
     headed: Option<Headed>,
     payload: Bytes,

@@ -42,7 +42,7 @@ fn are_rising(names: &[QueueName]) -> bool
 /// Names that are shared.
 ///
 /// Seen as their list.
-#[derive(Debug, Drop)]
+#[derive(Drop)]
 struct NameList {
     names: Vec<QueueName>,
 }
@@ -59,7 +59,7 @@ impl Model for NameList {
 /// most [`MAX_QUEUE_NAMES`]; they are counted from 0. (Profile.)
 ///
 /// Seen as the list of the names. A copy shares them, and takes no memory.
-#[derive(Debug, Drop)]
+#[derive(Drop)]
 pub struct QueueNames {
     /// None where there are no names.
     names: Option<Arc<NameList, Global>>,
@@ -132,7 +132,7 @@ impl QueueNames {
 
 /// A publication that a server works off: each of its shards places it for its own subscriptions, and
 /// each queue name is served by one shard. (Profile.)
-#[derive(Debug, Drop)]
+#[derive(Drop)]
 pub struct Job {
     /// The place of the job in the order of the server's jobs.
     pub turn: Turn,

@@ -14,7 +14,7 @@ use std::cmp::Ordering;
 
 /// A pattern, with the name of a queue group or without: what subscriptions of one kind share.
 /// (NATS documentation, "Cluster Protocol": `RS+`.)
-#[derive(Debug, Drop)]
+#[derive(Drop)]
 pub struct Key {
     pub pattern: Pattern,
     pub queue: Option<QueueName>,
@@ -56,7 +56,7 @@ impl Key {
 }
 
 /// One subscription of the key opened or closed. (Profile.)
-#[derive(Debug, Drop)]
+#[derive(Drop)]
 pub struct Delta {
     pub key: Key,
     /// Whether it opened.

@@ -14,7 +14,7 @@ use std::marker::Model;
 use std::sync::Arc;
 
 /// What a message is made of, which its copies share.
-#[derive(Debug, Drop)]
+#[derive(Drop)]
 pub struct MessageParts {
     pub subject: Subject,
     pub reply: Option<Reply>,
@@ -33,7 +33,7 @@ impl Model for MessageParts {
 /// payload. (NATS documentation, "Client Protocol": `PUB`, `HPUB`.) A copy shares all of it, behind one count, and takes no memory.
 ///
 /// Header block and payload together have at most [`MAX_PAYLOAD`] bytes. (Profile.)
-#[derive(Debug, Drop)]
+#[derive(Drop)]
 pub struct Message {
     shared: Arc<MessageParts, Global>,
 }
@@ -145,7 +145,7 @@ impl Message {
 
 /// A publication as a client hands it in: the message, and whether the client's own subscriptions may
 /// get it. (NATS documentation, "Client Protocol": `PUB`, and `echo` of `CONNECT`.)
-#[derive(Debug, Drop)]
+#[derive(Drop)]
 pub struct Pub {
     pub message: Message,
     pub echo: bool,

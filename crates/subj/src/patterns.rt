@@ -21,7 +21,7 @@ use std::marker::Model;
 ///
 /// Seen as its bytes, of which there are 1 to [`MAX_SUBJECT`]. (NATS documentation, "Subject-Based
 /// Messaging"; the length and the bytes are this project's profile.)
-#[derive(Debug, Drop)]
+#[derive(Drop)]
 pub struct Pattern {
     text: Vec<u8>,
 }

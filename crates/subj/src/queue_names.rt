@@ -15,7 +15,7 @@ use std::marker::Model;
 /// Groups".)
 ///
 /// Seen as its bytes, 1 to [`MAX_QUEUE_NAME`] of any but NUL, space, tab, CR and LF. (Profile.)
-#[derive(Debug, Drop)]
+#[derive(Drop)]
 pub struct QueueName {
     text: Vec<u8>,
 }

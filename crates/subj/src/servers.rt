@@ -41,7 +41,7 @@ fn are_apart(names: &[NodeId]) -> bool
 ///
 /// Seen as these. There are 1 to [`MAX_NODES`] names, all apart, and 1 to [`MAX_SHARDS`] shards; places
 /// are counted from 0.
-#[derive(Debug, Drop)]
+#[derive(Drop)]
 pub struct ServerIdentity {
     names: Vec<NodeId>,
     me: usize,

@@ -14,7 +14,7 @@ use std::marker::Model;
 /// What a client calls one of its subscriptions. (NATS documentation, "Client Protocol".)
 ///
 /// Seen as its bytes, 1 to [`MAX_SID`] of any but NUL, space, tab, CR and LF. (Profile.)
-#[derive(Debug, Drop)]
+#[derive(Drop)]
 pub struct Sid {
     text: Vec<u8>,
 }

@@ -8,7 +8,7 @@ use subj::{PubId, Turn};
 use thread_node::{HubEntry, HubEvent, HubTold};
 
 /// A publication that was given to the shards: the turn of its job, and what names it. (Profile.)
-#[derive(Clone, Copy, Debug, PartialEq, Eq)]
+#[derive(Clone, Copy, PartialEq, Eq)]
 pub enum IssuedJob {
     /// Of one of the server's own clients: its number among these in this life of the server, from 1.
     Own { turn: Turn, number: u64 },

@@ -1,7 +1,7 @@
 //! What a cutter gives.
 
 /// A piece of a stream, without the CR LF behind it. It borrows from the cutter that gave it.
-#[derive(Clone, Copy, Debug, PartialEq, Eq)]
+#[derive(Clone, Copy, PartialEq, Eq)]
 pub enum Piece<'a> {
     /// A control line.
     Line(&'a [u8]),
