@@ -4,7 +4,7 @@ ghost use Rattle.std.specs.Prelude.{◌≡◌, ◌+◌, ◌<◌, ◌≤◌, ◌^
 ghost use Rattle.outbox.specs.Bytes.{bytes_of};
 
 use crate::entries::Entry;
-use line_fields::CR_LF;
+use line_fields::{CR_LF, append_reserved};
 use std::alloc::{AllocError, Global};
 use std::marker::Model;
 use std::mem;
@@ -19,18 +19,6 @@ const KEPT_BYTES: usize = 1_024;
 /// The most bytes of room that stay where all bytes were moved, for those that come next.
 const MOVED_BYTES: usize = 65_536;
 
-/// Puts these bytes behind those that are there, where there is room for them.
-#[inline(always)]
-fn append_reserved(bytes: &[u8], out: &mut Vec<u8>)
-    requires { vec_len out.old + length bytes.now ≤ vec_capacity out.old }
-    ensures items { out.new.items ≡ out.old.items ++ bytes.now }
-    ensures len { vec_len out.new ≡ vec_len out.old + length bytes.now }
-    ensures capacity { vec_capacity out.old ≤ vec_capacity out.new }
-{
-    let appended = out.extend_from_slice(bytes);
-    prove!(appended.is_ok());
-}
-
 /// Puts a line or a payload with its CR LF behind the bytes that are there, where there is room for it.
 #[inline(always)]
 fn append_ended(bytes: &[u8], out: &mut Vec<u8>)
@@ -39,8 +27,7 @@ fn append_ended(bytes: &[u8], out: &mut Vec<u8>)
     ensures len { vec_len out.new ≡ vec_len out.old + length bytes.now + 2 }
     ensures capacity { vec_capacity out.old ≤ vec_capacity out.new }
 {
-    let appended = out.extend_from_slice(bytes);
-    prove!(appended.is_ok());
+    append_reserved(out, bytes);
     out.push_reserved(b'\r');
     out.push_reserved(b'\n');
 }
@@ -142,8 +129,8 @@ impl ByteQueue {
     {
         let len = head.len() + tail.len();
         self.bytes.reserve(len)?;
-        append_reserved(head, &mut self.bytes);
-        append_reserved(tail, &mut self.bytes);
+        append_reserved(&mut self.bytes, head);
+        append_reserved(&mut self.bytes, tail);
         Ok(len)
     }
 

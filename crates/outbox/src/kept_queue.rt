@@ -46,6 +46,18 @@ fn any_whole(kept: &VecDeque<Kept>) -> bool
     false
 }
 
+/// Puts the bytes of an entry that was copied and has so many, with which `text` begins, behind those that are there, and tells
+/// how many they are. Want of memory leaves all as it was.
+fn append_copied(len: usize, text: &[u8], out: &mut Vec<u8>) -> Result<usize, AllocError>
+    requires { len ≤ length text.now }
+    ensures len { IfOk result (λ appended. appended ≡ len) }
+    ensures ok { OnOk result (out.new.items ≡ out.old.items ++ take len text.now) }
+    ensures err { OnErr result (out.new.items ≡ out.old.items) }
+{
+    out.extend_from_slice(&text[..len])?;
+    Ok(len)
+}
+
 /// Puts the bytes of an entry behind those that are there, and tells how many of `text`, which begins
 /// with the entry's own, it has. Want of memory leaves all as it was.
 fn append_kept(kept: &Kept, text: &[u8], out: &mut Vec<u8>) -> Result<usize, AllocError>
@@ -55,10 +67,7 @@ fn append_kept(kept: &Kept, text: &[u8], out: &mut Vec<u8>) -> Result<usize, All
     ensures err { OnErr result (out.new.items ≡ out.old.items) }
 {
     match kept {
-        Kept::Copied { len, .. } => {
-            out.extend_from_slice(&text[..*len])?;
-            Ok(*len)
-        }
+        Kept::Copied { len, .. } => append_copied(*len, text, out),
         Kept::Whole(entry) => {
             entry.append_to(out)?;
             Ok(0)
@@ -66,16 +75,18 @@ fn append_kept(kept: &Kept, text: &[u8], out: &mut Vec<u8>) -> Result<usize, All
     }
 }
 
-/// The same for an entry that has a mark.
-fn append_marked(mark: Mark, text: &[u8], out: &mut Vec<u8>) -> Result<usize, AllocError>
-    requires { copied_len (kept_of mark) ≤ length text.now }
-    ensures len { IfOk result (λ len. len ≡ copied_len (kept_of mark)) }
-    ensures ok { OnOk result (out.new.items ≡ out.old.items ++ take (copied_len (kept_of mark)) text.now) }
-    ensures err { OnErr result (out.new.items ≡ out.old.items) }
+/// A copy of an entry that was copied and has so many bytes, with which `text` begins; and how many they are.
+fn copy_copied(
+    alloc: Global,
+    tag: Tag,
+    len: usize,
+    text: &[u8],
+) -> Result<(Entry, usize), AllocError>
+    requires { len ≤ length text.now }
+    ensures { IfOk result (λ copy. (copy.0 ≡ record { tag = tag; bytes = take len text.now }) × (copy.1 ≡ len)) }
 {
-    let len = mark.len();
-    out.extend_from_slice(&text[..len])?;
-    Ok(len)
+    let bytes = Vec::from_slice(alloc, &text[..len])?;
+    Ok((Entry::of_bytes(tag, bytes), len))
 }
 
 /// A copy of an entry, and how many of `text`, which begins with the entry's own, it has.
@@ -84,23 +95,9 @@ fn copy_of(alloc: Global, kept: &Kept, text: &[u8]) -> Result<(Entry, usize), Al
     ensures { IfOk result (λ copy. (copy.0 ≡ written_at kept.now text.now) × (copy.1 ≡ copied_len kept.now)) }
 {
     match kept {
-        Kept::Copied { tag, len } => {
-            let bytes = Vec::from_slice(alloc, &text[..*len])?;
-            let tag = tag.try_clone(alloc)?;
-            Ok((Entry::of_bytes(tag, bytes), *len))
-        }
+        Kept::Copied { tag, len } => copy_copied(alloc, tag.try_clone(alloc)?, *len, text),
         Kept::Whole(entry) => Ok((entry.try_clone(alloc)?, 0)),
     }
-}
-
-/// The same for an entry that has a mark.
-fn copy_marked(alloc: Global, mark: Mark, text: &[u8]) -> Result<(Entry, usize), AllocError>
-    requires { copied_len (kept_of mark) ≤ length text.now }
-    ensures { IfOk result (λ copy. (copy.0 ≡ written_at (kept_of mark) text.now) × (copy.1 ≡ copied_len (kept_of mark))) }
-{
-    let len = mark.len();
-    let bytes = Vec::from_slice(alloc, &text[..len])?;
-    Ok((Entry::of_bytes(mark.tag(), bytes), len))
 }
 
 /// Drops the first entry. Gives how many bytes it had, and how many of them were copied.
@@ -172,7 +169,9 @@ impl KeptQueue {
         ensures spare { OnOk result (1 ≤ self.new.spare) }
         ensures kept { self.old.places ≤ self.new.places }
     {
-        self.marks.reserve(1)?;
+        if self.marks.len() == self.marks.capacity() {
+            self.marks.reserve(1)?;
+        }
         self.others.reserve(2)?;
         Ok(())
     }
@@ -271,7 +270,7 @@ impl KeptQueue {
         ensures err { OnErr result (out.new.items ≡ out.old.items) }
     {
         if place < self.marks.len() {
-            return append_marked(self.marks[place], text, out);
+            return append_copied(self.marks[place].len(), text, out);
         }
         append_kept(&self.others[place - self.marks.len()], text, out)
     }
@@ -288,7 +287,8 @@ impl KeptQueue {
         ensures { IfOk result (λ copy. (copy.0 ≡ written_at (kept_at self.now.items place) text.now) × (copy.1 ≡ copied_len (kept_at self.now.items place))) }
     {
         if place < self.marks.len() {
-            return copy_marked(alloc, self.marks[place], text);
+            let mark = self.marks[place];
+            return copy_copied(alloc, mark.tag(), mark.len(), text);
         }
         copy_of(alloc, &self.others[place - self.marks.len()], text)
     }

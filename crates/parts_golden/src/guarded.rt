@@ -279,10 +279,16 @@ impl<T: SubTable> Opened<T> {
         self.table.close(ConnId::new(conn));
     }
 
-    /// Notes how many messages the one of this serial got.
-    #[tactic(auto, using(crate::proofs::Below::below_delivered))]
-    pub fn set_count(&mut self, serial: u64, delivered: u64) {
-        self.table.set_count(serial, delivered);
+    /// Counts one more message that the one of this serial got. Gives whether there is one whose count may rise.
+    pub fn count(&mut self, serial: u64) -> bool {
+        let Some(sub) = self.table.get(serial) else {
+            return false;
+        };
+        if sub.delivered >= u64::MAX - 1 {
+            return false;
+        }
+        self.table.count(serial);
+        true
     }
 
     /// Notes how many messages the one of this serial is to get.

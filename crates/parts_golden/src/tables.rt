@@ -130,11 +130,10 @@ fn seen<T: SubTable>(
     }
 }
 
-/// Closes those of a connection, or notes how many messages one got or is to get.
+/// Closes those of a connection, or notes how many messages one is to get.
 fn change<T: SubTable>(opened: &mut Opened<T>, call: &str, words: &Words<'_>) {
     match call {
         "close" => opened.close(words.number(0)),
-        "set_count" => opened.set_count(words.number(0), words.number(1)),
         _ => opened.set_max(words.number(0), words.at(1).parse().ok()),
     }
 }
@@ -150,7 +149,8 @@ fn opened_call<T: SubTable>(
     match call {
         "open" => open(answer, opened, alloc, words),
         "remove" => remove(answer, opened, words.number(0)),
-        "close" | "set_count" | "set_max" => {
+        "count" => tell_whether(answer, opened.count(words.number(0))),
+        "close" | "set_max" => {
             change(opened, call, words);
             tell(answer, "ok")
         }
@@ -432,13 +432,12 @@ fn call_both(alloc: Global, pair: &mut Pair, drawn: Drawn) -> Option<bool> {
     Some(of_list == of_trie)
 }
 
-/// Notes drawn counts in both tables.
-fn note_both(pair: &mut Pair, drawn: Drawn) {
-    let (serial, other, count) = (drawn.serial, drawn.word % CALLS, drawn.limit % 9);
-    pair.list.set_count(serial, count);
-    pair.trie.set_count(serial, count);
-    pair.list.set_max(other, Some(count));
-    pair.trie.set_max(other, Some(count));
+/// Counts a message, and notes a drawn maximum, in both tables. Gives whether they answer alike.
+fn note_both(pair: &mut Pair, drawn: Drawn) -> bool {
+    let (other, max) = (drawn.word % CALLS, Some(drawn.limit % 9));
+    pair.list.set_max(other, max);
+    pair.trie.set_max(other, max);
+    pair.list.count(drawn.serial) == pair.trie.count(drawn.serial)
 }
 
 /// How often the trie is told of a subject: where subjects are kept in mind, of each second one so often that it is.
@@ -451,8 +450,7 @@ fn change_both(alloc: Global, pair: &mut Pair, drawn: Drawn, is_call: bool) -> O
     if is_call {
         return call_both(alloc, pair, drawn);
     }
-    note_both(pair, drawn);
-    Some(true)
+    Some(note_both(pair, drawn))
 }
 
 /// Changes both tables, and asks them. Gives whether they answer alike.

@@ -205,6 +205,7 @@ fn seat_in(conns: &Vec<Conn>, near: usize, conn: ConnId) -> Option<Seat>
 }
 
 /// How the connection, which is looked for at this place first, stands to an entry of so many bytes in the form that it is due.
+#[inline(always)]
 fn standing_in(conns: &Vec<Conn>, near: usize, conn: ConnId, lengths: FormLengths) -> Standing
     requires { AreRising conns.now.items }
     ensures { IsStanding result conn lengths (map (client_in_view next_backlog) conns.now.items) }
@@ -425,6 +426,7 @@ impl Conns {
 
     /// Where the connection may stand: where the last entry was staged, or else where the next one is, if it goes the way of those
     /// before the last commit.
+    #[inline(always)]
     fn near(&self, conn: ConnId) -> usize {
         if let Some(place) = self.places.last() {
             if is_at(&self.conns, *place, conn.get()) {
@@ -446,6 +448,7 @@ impl Conns {
     }
 
     /// How the connection stands to an entry of so many bytes in the form that it is due, behind all that was put or staged.
+    #[inline(always)]
     pub fn standing(&self, conn: ConnId, lengths: FormLengths) -> Standing
         ensures { IsStanding result conn lengths self.now.next }
     {

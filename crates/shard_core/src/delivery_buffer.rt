@@ -252,6 +252,7 @@ impl DeliveryBuffer {
     }
 
     /// Notes that the subscription of this serial is given an entry, of which no copy is asked for, and whether it closes with it.
+    #[inline(always)]
     pub(crate) fn note_given(&mut self, serial: u64, ends: bool) -> Result<(), AllocError>
         ensures { OnOk result (self.new ≡ with_noted serial ends self.old) }
     {

@@ -103,11 +103,7 @@ impl<T: SubTable> Openings<T> {
         requires { CanCount serial self.old.subs }
         ensures { self.new ≡ with_counts (serial ∷ []) self.old }
     {
-        let Some(sub) = self.table.get(serial) else {
-            return;
-        };
-        let delivered = sub.delivered + 1;
-        self.table.set_count(serial, delivered);
+        self.table.count(serial);
     }
 
     /// Counts one more message that each of these serials got, where it is open. Takes no memory.

@@ -1,5 +1,5 @@
 -- Lists of open subscriptions.
-use Rattle.std.specs.Prelude.{ℕ, ◌+◌, ◌-◌, Bool, not, ◌&&◌, nat_eq, nat_le, List, [], ◌∷◌, length, map, filter, sum_by, Option, Some, None, if◌then◌else◌}
+use Rattle.std.specs.Prelude.{ℕ, ◌+◌, ◌-◌, ◌<◌, ◌^◌, IfSome, Bool, not, ◌&&◌, nat_eq, nat_le, List, [], ◌∷◌, length, map, filter, sum_by, Option, Some, None, if◌then◌else◌}
 use Rattle.std.specs.Option.{option_map}
 use Rattle.std.specs.List.{find}
 use Rattle.std.specs.Str.{bytes_eq}
@@ -45,8 +45,13 @@ abbrev pub with_changed : ℕ → (Subscription → Subscription) → List Subsc
 with_changed serial change [] = []
 with_changed serial change (sub ∷ subs) = if has_serial serial sub then change sub ∷ subs else sub ∷ with_changed serial change subs
 
-abbrev pub with_delivered : ℕ → ℕ → List Subscription → List Subscription
-with_delivered serial delivered subs = with_changed serial (λ sub. record sub { delivered = delivered }) subs
+-- one more message can be counted for the one of this serial
+abbrev pub CountFits : ℕ → List Subscription → Type 0
+CountFits serial subs = IfSome (find (has_serial serial) subs) (λ sub. sub.delivered + 1 < 2 ^ 64)
+
+-- and is
+abbrev pub with_one_more : ℕ → List Subscription → List Subscription
+with_one_more serial subs = with_changed serial (λ sub. record sub { delivered = sub.delivered + 1 }) subs
 
 abbrev pub with_max : ℕ → Option ℕ → List Subscription → List Subscription
 with_max serial max subs = with_changed serial (λ sub. record sub { max = max }) subs

@@ -4,7 +4,7 @@ ghost use Rattle.std.specs.Prelude.{◌≡◌, ◌<◌, ◌+◌, nat_le, true, [
 ghost use Rattle.std.specs.List.{find as find_in};
 ghost use Rattle.std.specs.Option.{option_copied};
 ghost use Rattle.std.proofs.Props.{props};
-ghost use Rattle.sub_table.specs.Subscriptions.{total_cost, gets, has_serial, without_serial, with_delivered, with_max, matching_of, is_room};
+ghost use Rattle.sub_table.specs.Subscriptions.{total_cost, gets, has_serial, without_serial, CountFits, with_one_more, with_max, matching_of, is_room};
 ghost use Rattle.pattern_trie.specs.Held.{Holds};
 ghost use Rattle.pattern_trie.specs.Starts.{node_count};
 ghost use Rattle.sub_trie.specs.Rising.{is_keyed, is_rising, held_of, rows, subs_in_order};
@@ -169,12 +169,13 @@ impl Opened {
         }
     }
 
-    /// Notes how many messages the one of this serial got. Takes no memory.
-    pub(crate) fn set_count(&mut self, serial: u64, delivered: u64)
-        ensures { subs_in_order self.new.subs ≡ with_delivered serial delivered (subs_in_order self.old.subs) }
+    /// Counts one more message that the one of this serial got. Takes no memory.
+    pub(crate) fn count(&mut self, serial: u64)
+        requires { CountFits serial (subs_in_order self.old.subs) }
+        ensures { subs_in_order self.new.subs ≡ with_one_more serial (subs_in_order self.old.subs) }
     {
         if let Some(sub) = self.subs.get_mut(&serial) {
-            sub.delivered = delivered;
+            sub.delivered += 1;
         }
     }
 

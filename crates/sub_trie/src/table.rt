@@ -139,8 +139,8 @@ impl SubTable for TrieTable {
         copy_serials(&self.by_conn, &conn.get(), serials)
     }
 
-    fn set_count(&mut self, serial: u64, delivered: u64) {
-        self.opened.set_count(serial, delivered);
+    fn count(&mut self, serial: u64) {
+        self.opened.count(serial);
     }
 
     fn set_max(&mut self, serial: u64, max: Option<u64>) {

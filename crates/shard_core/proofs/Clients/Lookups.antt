@@ -7,7 +7,7 @@ use Rattle.std.proofs.lemmas.Bool.Decides.{nat_tests}
 use Rattle.std.proofs.lemmas.List.{length-map}
 use Rattle.outbox.specs.Views.{Waiting, Backlog, Written, has_room, size_of}
 use Rattle.shard_core.specs.declared.connections.Conn.{Conn}
-use Rattle.shard_core.specs.Shards.{Client, client_at, clients_with_change, clients_with_headers, has_number, with_outbox, with_headers, option_of, takes_headers, without_client, fits, fits_len, is_open, room_of, takes_events, entries_of, waits_for}
+use Rattle.shard_core.specs.Shards.{Client, client_at, clients_with_change, clients_with_headers, has_number, with_outbox, with_headers, option_of, without_client, fits, fits_len, is_open, room_of, takes_events, entries_of, waits_for}
 use Rattle.shard_core.specs.declared.connections.Seat.{Seat}
 use Rattle.shard_core.specs.declared.connections.Standing.{Standing}
 use Rattle.shard_core.specs.declared.connections.FormLengths.{FormLengths}

@@ -1,5 +1,5 @@
 -- What waits and what will wait, where entries are staged at some places.
-use Rattle.std.proofs.Common.{◌≡◌, ℕ, zero, Option, Some, None, ◌<◌, ◌≤◌, Bool, true, false, List, [], ◌∷◌, ◌++◌, length, map, get_or, refl, sym, ap, ◌∙◌, arith}
+use Rattle.std.proofs.Common.{◌≡◌, ℕ, zero, Some, ◌<◌, ◌≤◌, Bool, true, false, List, [], ◌∷◌, ◌++◌, length, map, get_or, refl, sym, ap, ◌∙◌, arith}
 use Rattle.std.specs.Prelude.{nat_eq, ◌||◌, slice_set}
 use Rattle.std.specs.List.{list_any}
 use Rattle.std.proofs.lemmas.Bool.Decides.{nat_tests}
@@ -8,10 +8,10 @@ use Rattle.std.proofs.lemmas.List.{nil_from_length, map-append, ext_get_or, get_
 use Rattle.std.proofs.Math.Seq.{map-set_same}
 use Rattle.std.proofs.lemmas.Grind.{common_steps}
 use Rattle.shard_core.specs.declared.connections.Conn.{Conn}
-use Rattle.shard_core.specs.Shards.{Client, client_at, clients_with_change, with_headers, fits, fits_len, is_open, takes_events}
+use Rattle.shard_core.specs.Shards.{Client, client_at, clients_with_change, with_headers, fits, is_open}
 use Rattle.std.proofs.Common.{subst, filter, not, suc}
 use Rattle.std.specs.List.{AllPairs}
-use Rattle.std.specs.Prelude.{◌==◌, All, OnErr, Result, Ok, Err, slice_index_or, slice_get, position, is_some}
+use Rattle.std.specs.Prelude.{◌==◌, All, OnErr, Result, Ok, Err, slice_index_or, slice_get, position}
 use Rattle.std.proofs.lemmas.Option.{same_Some, slice_get-get_or}
 use Rattle.std.proofs.lemmas.List.Kept.{AllPairs-filter}
 use Rattle.std.proofs.lemmas.List.Quantifiers.{all_pairs_push}

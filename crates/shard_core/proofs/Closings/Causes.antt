@@ -21,7 +21,7 @@ use Rattle.subj.specs.declared.jobs.Job.{Job}
 use Rattle.subj.specs.declared.keys.Key.{Key}
 use Rattle.shard_core.specs.declared.faults.ShardFault.{ShardFault}
 use Rattle.shard_core.specs.declared.faults.ShardFault.TheVariants as fault
-use Rattle.shard_core.specs.Shards.{State, Client, takes_events, is_open, clients_with_change}
+use Rattle.shard_core.specs.Shards.{State, takes_events, is_open, clients_with_change}
 use Rattle.shard_core.specs.Closings.{id_of, serials_of, is_left, left_of, without_subs, ended_ids}
 use Rattle.shard_core.specs.Owed.{Walk, walk, whole_walk, first_step, walk_after_put, walk_with_entry, walk_with_shut, slow_consumer, owed_entry, reaches, ended_by, is_due, sub_with_count, candidate_of, candidate_named, is_candidate, after_claim}
 use Rattle.shard_core.specs.Opened.{AreRising, AreApart}

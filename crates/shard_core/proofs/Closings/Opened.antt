@@ -1,6 +1,6 @@
 -- Subscriptions in order of their serials: what an opening, a count and closings make of them.
 use Rattle.std.proofs.Common.{◌≡◌, ◌≢◌, ℕ, suc, ◌+◌, ◌<◌, ◌^◌, Bool, true, false, not, ◌&&◌, ◌||◌, cond, nat_eq, List, [], ◌∷◌, ◌++◌, length, map, filter, Some, None, refl, sym, ap, ◌∙◌, subst, inl, inr, arith}
-use Rattle.std.specs.Prelude.{find, All}
+use Rattle.std.specs.Prelude.{find, All, IfSome, Option}
 use Rattle.std.specs.List.{list_any}
 use Rattle.std.proofs.lemmas.List.{length-map}
 use Rattle.std.proofs.lemmas.List.Elements.{All-map, All-weaker}
@@ -10,7 +10,7 @@ use Rattle.list_laws.specs.Lists.{In, Each, Pairs}
 use Rattle.list_laws.proofs.Lists.{in_map, pairs_append}
 use Rattle.list_laws.proofs.Tests.{eq_true, eq_false, true_eq, false_eq, has_in}
 use Rattle.list_laws.proofs.Changes.{map_append, map_map, map_same, pairs_filter, append_nil, append_assoc}
-use Rattle.sub_table.specs.Subscriptions.{is_of, has_serial, serial_of, without_serial, with_delivered, serials_of as serials_of_conn}
+use Rattle.sub_table.specs.Subscriptions.{is_of, has_serial, serial_of, without_serial, with_one_more, CountFits, serials_of as serials_of_conn}
 use Rattle.sub_table.specs.declared.Subscription.{Subscription}
 use Rattle.shard_core.specs.Closings.{serials_of, is_left, left_of, closing, closings_of}
 use Rattle.shard_core.specs.Owed.{sub_with_count}
@@ -179,16 +179,16 @@ lacks_counted : (k : ℕ) (us : List Subscription) → Lacks k us → map (sub_w
 lacks_counted k [] none = refl
 lacks_counted k (u ∷ us) none = ap (λ v. v ∷ map (sub_with_count (k ∷ [])) us) (counted_here k u ∙ ap (λ b. cond b (record u { delivered = u.delivered + 1 }) u) (lacks_here k u us none)) ∙ ap (λ l. u ∷ l) (lacks_counted k us (λ j i. none j (inr i)))
 
-pub counts_none : (k : ℕ) (us : List Subscription) → find (has_serial k) us ≡ None → map (sub_with_count (k ∷ [])) us ≡ us
-counts_none k us none = lacks_counted k us (none_lacks k us none)
-
-pub counts_one : (k : ℕ) (us : List Subscription) (u : Subscription) → AreRising us → find (has_serial k) us ≡ Some u → with_delivered k (u.delivered + 1) us ≡ map (sub_with_count (k ∷ [])) us
-counts_one k [] u rising found = refl
-counts_one k (v ∷ us) u rising found = go (has_serial k v) refl found (counts_one k us u rising.1) ∙ sym (ap (λ w. w ∷ map (sub_with_count (k ∷ [])) us) (counted_here k v))
+pub counts_one : (k : ℕ) (us : List Subscription) → AreRising us → with_one_more k us ≡ map (sub_with_count (k ∷ [])) us
+counts_one k [] rising = refl
+counts_one k (v ∷ us) rising = go (has_serial k v) refl (counts_one k us rising.1) ∙ sym (ap (λ w. w ∷ map (sub_with_count (k ∷ [])) us) (counted_here k v))
   where
-    go : (b : Bool) → has_serial k v ≡ b → cond b (Some v) (find (has_serial k) us) ≡ Some u → (find (has_serial k) us ≡ Some u → with_delivered k (u.delivered + 1) us ≡ map (sub_with_count (k ∷ [])) us) → cond b (record v { delivered = u.delivered + 1 } ∷ us) (v ∷ with_delivered k (u.delivered + 1) us) ≡ cond b (record v { delivered = v.delivered + 1 }) v ∷ map (sub_with_count (k ∷ [])) us
-    go true e found below = ap (λ w. record v { delivered = w.delivered + 1 } ∷ us) (sym (same_Some v u found)) ∙ ap (λ l. record v { delivered = v.delivered + 1 } ∷ l) (sym (lacks_counted k us (later k v us rising e)))
-    go false e found below = ap (λ l. v ∷ l) (below found)
+    one_more : Subscription
+    one_more = record v { delivered = v.delivered + 1 }
+
+    go : (b : Bool) → has_serial k v ≡ b → with_one_more k us ≡ map (sub_with_count (k ∷ [])) us → cond b (one_more ∷ us) (v ∷ with_one_more k us) ≡ cond b one_more v ∷ map (sub_with_count (k ∷ [])) us
+    go true e below = ap (λ l. one_more ∷ l) (sym (lacks_counted k us (later k v us rising e)))
+    go false e below = ap (λ l. v ∷ l) below
 
 pub found_counts : (k : ℕ) (us : List Subscription) (u : Subscription) → CanCount k us → find (has_serial k) us ≡ Some u → u.delivered + 1 < 2 ^ 64
 found_counts k [] u can found = absurd (none-some u found)
@@ -197,6 +197,13 @@ found_counts k (v ∷ us) u can found = go (has_serial k v) refl found (found_co
     go : (b : Bool) → has_serial k v ≡ b → cond b (Some v) (find (has_serial k) us) ≡ Some u → (find (has_serial k) us ≡ Some u → u.delivered + 1 < 2 ^ 64) → u.delivered + 1 < 2 ^ 64
     go true e found below = subst (λ (w : Subscription). w.delivered + 1 < 2 ^ 64) (same_Some v u found) (can 0 v (omega arith) (eq_true v.serial k e))
     go false e found below = below found
+
+pub count_fits : (k : ℕ) (us : List Subscription) → CanCount k us → CountFits k us
+count_fits k us can = go (find (has_serial k) us) refl
+  where
+    go : (o : Option Subscription) → find (has_serial k) us ≡ o → IfSome o (λ (u : Subscription). u.delivered + 1 < 2 ^ 64)
+    go None none = tt
+    go (Some u) found = found_counts k us u can found
 
 counts_nobody : (us : List Subscription) → map (sub_with_count []) us ≡ us
 counts_nobody [] = refl
