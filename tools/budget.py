@@ -6,6 +6,10 @@ Usage: tools/dev budget            measures, and ends with status 1 where someth
 The whole is the processor time that `rt ci --anew` and all that it starts have used, as the system tells it at the end. A crate's is that of
 the provers and compilers that worked on it, looked at every second, so that it falls short by a second or two for each of them.
 
+One machine needs half as long again as another for the same proofs. So the ceilings are in seconds of one machine, of which "pace" in tools/costs.json
+tells what the proofs of some crates took that have not changed since. What the same crates take in this run tells the pace of this machine, and all is
+counted in seconds of that one; the whole is printed in both. Whoever changes one of these crates takes it out of "pace", and its seconds too.
+
 Each check has one job. The gate else gives a check the processors that nothing else waits for, and two to four jobs share its work at 1.2 to 1.8 times
 its processor seconds, so that the figures would tell how many processors the machine has.
 """
@@ -120,6 +124,19 @@ def read_costs():
         return json.load(file)
 
 
+def pace_of(costs, crates):
+    """How many of its processor seconds this machine takes for one of the machine that the ceilings are of. None where the gate proved none of the
+    crates that tell it."""
+    known = [crate for crate in costs["pace"]["crates"] if crate in crates]
+    due = sum(costs["pace"]["crates"][crate] for crate in known)
+    return sum(crates[crate]["proof"] for crate in known) / due if due else None
+
+
+def at_pace(crates, pace):
+    """What each crate costs in seconds of that machine."""
+    return {crate: {kind: used / pace for kind, used in cost.items()} for crate, cost in crates.items()}
+
+
 def ceiling_of(costs, crate):
     """The most that the proof of a crate may cost."""
     said = costs["crates"].get(crate, {})
@@ -141,10 +158,11 @@ def faults_of(costs, whole, crates):
     return faults
 
 
-def measured(costs, whole, elapsed, crates):
+def measured(costs, whole, elapsed, crates, pace):
     """The costs with what was measured in them."""
     costs["whole"]["measured"] = round(whole)
     costs["whole"]["elapsed"] = round(elapsed)
+    costs["whole"]["pace"] = round(pace, 2)
     costs["whole"]["processors"] = len(os.sched_getaffinity(0))
     known = costs["crates"]
     costs["crates"] = {}
@@ -165,9 +183,14 @@ def main(words):
     if words not in ([], ["--write"]):
         return None
     costs = read_costs()
-    status, whole, elapsed, crates = run_gate()
+    status, spent, elapsed, crates = run_gate()
+    pace = pace_of(costs, crates)
+    if pace is None:
+        print("tools/dev budget: the gate did not come as far as the crates that tell this machine's pace", file=sys.stderr)
+        return 1
+    crates, whole = at_pace(crates, pace), spent / pace
     print("\n".join(table(crates)))
-    print(f"the whole: {whole:.0f} processor seconds in {elapsed:.0f} s")
+    print(f"the whole: {spent:.0f} processor seconds in {elapsed:.0f} s; this machine takes {pace:.2f} for one of the ceilings', so {whole:.0f} of these")
     faults = faults_of(costs, whole, crates)
     for fault in faults:
         print(f"tools/dev budget: {fault}", file=sys.stderr)
@@ -176,6 +199,6 @@ def main(words):
         return 1
     if words:
         with open(COSTS, "w", encoding="utf-8") as file:
-            json.dump(measured(costs, whole, elapsed, crates), file, indent=1, ensure_ascii=False)
+            json.dump(measured(costs, whole, elapsed, crates, pace), file, indent=1, ensure_ascii=False)
             file.write("\n")
     return 1 if faults else 0

@@ -3,8 +3,8 @@
 Usage: tools/dev edits CRATE..    those of these crates
        tools/dev edits --all      those of every crate, with a line for each crate and a summary at the end
 
-Each edit costs as much as the proof of what it changes, and the first of a crate as much as the crate. So the gate tries four to six of a
-crate whose proof is cheap, and the others stand beside it (docs/DECISIONS.md). While they are tried they stand as `.edit` files, which go at the end.
+Each edit costs as much as the proof of what it changes, and the first of a crate as much as the crate. So the gate tries those of a few crates
+whose proofs are cheap, and the others stand beside it (docs/DECISIONS.md). While they are tried they stand as `.edit` files, which go at the end.
 """
 import os
 import re
