@@ -284,7 +284,7 @@ impl<T: SubTable> Opened<T> {
         let Some(sub) = self.table.get(serial) else {
             return false;
         };
-        if sub.delivered >= u64::MAX - 1 {
+        if sub.delivered >= u64::MAX {
             return false;
         }
         self.table.count(serial);

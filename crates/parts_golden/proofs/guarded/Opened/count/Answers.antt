@@ -6,7 +6,7 @@ use Rattle.parts_golden.proofs.guarded.Opened.count.Goals as goal
 
 pub count-requires : goal.count-requires
 count-requires g c =
-    let below = c.if-sub.false in
+    let below = c.if-sub-ge18446744073709551615.false in
     let fits : c.in-Some.sub.now.delivered + 1 < 2 ^ 64 = omega arith in
     subst (λ o. IfSome o (λ (s : Subscription). s.delivered + 1 < 2 ^ 64)) c.in-Some.ensures fits
 
