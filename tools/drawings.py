@@ -16,7 +16,7 @@ LAYERS = [
 
 # The middle of each crate's box, and its upper edge.
 PLACES = {
-    "nats_mesh": (520, 24), "mesh_pipe": (650, 66),
+    "nats_mesh": (520, 24), "mesh_pipe": (650, 66), "mesh_tools": (880, 24),
     "mesh_serve": (240, 134), "thread_report": (540, 134), "node_net": (90, 186), "thread_node": (350, 186),
     "net_streams": (210, 236), "node_threads": (400, 236), "thread_law": (540, 236), "job_lane": (365, 288), "claim_cells": (520, 288),
     "mesh_script": (880, 360), "node_parts": (480, 408), "node_core": (630, 408), "cluster_world": (790, 408),
@@ -30,7 +30,8 @@ PLACES = {
 
 # Which crate stands on which, of those that carry the design.
 ARROWS = {
-    "nats_mesh": ["mesh_serve", "mesh_pipe", "mesh_script"],
+    "nats_mesh": ["mesh_serve", "mesh_pipe"],
+    "mesh_tools": ["mesh_script"],
     "mesh_pipe": ["node_core"],
     "mesh_serve": ["node_net", "thread_node"],
     "thread_report": ["thread_node", "thread_law"],

@@ -1,15 +1,15 @@
-"""Draws lists of steps for clusters and streams of one client, plays them with the program, and judges what it writes by a model of its own.
+"""Draws lists of steps for clusters and streams of one client, has them played, and judges what is written by a model of its own.
 
-  tools/dev drill [LISTS] [--seed N] [--program PATH] [--plants]
+  tools/dev drill [LISTS] [--seed N] [--unproved] [--plants]
   tools/dev drill [LISTS] [--seed N] --show script | rest | held | stream
 
 For each of LISTS seeds from N on (500 from 1 on, where they are left out) `nats_mesh script` plays one script, one that brings a cluster to rest and
 delivers there, and the same with a frame held back; and `nats_mesh pipe` one stream. Before them one publication between two servers is played, disturbed
 behind each of its events (`disturbed`). What each script's run published, subscribed and placed is written by `script --audit`, and audited by
-`nats_mesh audit`. PATH is the program, of whatever sources. Where it is left out, the proved one is played (crates/nats_mesh/out/nats_mesh), which is not
-built here: where it is missing, or older than a source of the router, nothing is played, and it is said how it is built (status 2). --plants also edits
-what the program wrote of each list, in each of several named ways, and sees that each is found. --show writes what is drawn, and plays nothing:
-`tools/dev drill 1 --seed 17 --show script | ./nats_mesh script`. Status 0: nothing differs, and each plant was found.
+`nats_mesh audit`. The programs that the launcher starts for these words are played, proved (crates/NAME/out/NAME) or, by --unproved, built without
+proofs (.unproved/NAME). None is built here: where one is missing, or older than a source, nothing is played, and it is said how it is built (status 2).
+--plants also edits what was written of each list, in each of several named ways, and sees that each is found. --show writes what is drawn, and plays
+nothing: `tools/dev drill 1 --seed 17 --show script | ./nats_mesh script`. Status 0: nothing differs, and each plant was found.
 
 The model is written from the pages docs/SCRIPTS.md, docs/PROTOCOL.md and docs/PROMISES.md, and from nothing of the router's code. A cluster has 1 to
 5 servers of 1 to 4 shards, and one in 33 up to 16 servers of up to 16 (16 shards too where their share of subscriptions is filled). Judged of a
@@ -41,12 +41,13 @@ from .judge import ENDED, Flaw, flaws_in
 from .lists import brought_to_rest, drawn
 from .tally import Tally
 
-PROGRAM = os.path.join(TOP, "crates", "nats_mesh", "out", "nats_mesh")
+# Which program has which of the commands that are played.
+PROGRAM_OF = {"pipe": "nats_mesh", "script": "mesh_tools", "audit": "mesh_tools"}
 
-# What to do where the program is missing or old. Only a word that needs the program builds it.
-HOW_TO_BUILD = """  without proofs, in minutes:  ./nats_mesh --unproved pipe </dev/null
-                               and then tools/dev drill --program .unproved/nats_mesh
-  the proved one:              ./nats_mesh pipe </dev/null"""
+# What to do where a program is missing or old. Only a word that needs a program builds it.
+HOW_TO_BUILD = """  without proofs, in minutes:  for word in pipe audit; do ./nats_mesh --unproved $word </dev/null; done
+                               and then tools/dev drill --unproved
+  the proved ones:             for word in pipe audit; do ./nats_mesh $word </dev/null; done"""
 
 LISTS = 500
 
@@ -55,10 +56,15 @@ LAST_SECOND = 120
 MOST_FLAWS = 5
 
 
-def run(program, words, data):
-    """What the program writes of its input, and its status; none where it does not end."""
+def path_of(name, is_proved):
+    """Where a program stands."""
+    return os.path.join(TOP, "crates", name, "out", name) if is_proved else os.path.join(TOP, ".unproved", name)
+
+
+def run(programs, words, data):
+    """What the program that has the command writes of its input, and its status; none where it does not end."""
     try:
-        done = subprocess.run([program, *words], input=data, stdout=subprocess.PIPE, stderr=subprocess.DEVNULL, timeout=LAST_SECOND, check=False)
+        done = subprocess.run([programs[PROGRAM_OF[words[0]]], *words], input=data, stdout=subprocess.PIPE, stderr=subprocess.DEVNULL, timeout=LAST_SECOND, check=False)
     except subprocess.TimeoutExpired:
         return "", None
     return done.stdout.decode(errors="replace"), done.returncode
@@ -81,20 +87,20 @@ def how_to_show(seed, word):
     return f"seed {seed}; tools/dev drill 1 --seed {seed} --show {word} shows it"
 
 
-def log_flaws(program, script, text):
+def log_flaws(programs, script, text):
     """What is wrong with the lists of a script, and with their audit."""
-    log, status = run(program, ["script", "--audit"], script.text)
+    log, status = run(programs, ["script", "--audit"], script.text)
     flaws = [] if status == 0 else [Flaw(ENDED, f"status {status} with the lists")]
     flaws += logs.flaws_in(script, text, log)
-    told, status = run(program, ["audit"], log.encode())
+    told, status = run(programs, ["audit"], log.encode())
     return flaws if (told, status) == ("none\n", 0) else flaws + [Flaw(logs.NOT_PASSED, f"{told.strip()}, status {status}")]
 
 
-def play_script(program, script, of_kind, of, tally):
+def play_script(programs, script, of_kind, of, tally):
     """Plays a script, and judges what is written. With plants of a kind sees that each flaw is found."""
-    text, status = run(program, ["script"], script.text)
+    text, status = run(programs, ["script"], script.text)
     flaws = [] if status == 0 else [Flaw(ENDED, f"status {status}")]
-    flaws += [*flaws_in(script, text), *log_flaws(program, script, text)]
+    flaws += [*flaws_in(script, text), *log_flaws(programs, script, text)]
     tally.note_list(script, text)
     tell_flaws(of, flaws, tally)
     if flaws or of_kind is None:
@@ -102,26 +108,26 @@ def play_script(program, script, of_kind, of, tally):
     for name, edited, kind in plants.planted(of_kind, plants.Written(script, text)):
         tally.note_plant(name, any(flaw.kind == kind for flaw in flaws_in(script, edited)))
     for name, edited, told in logs.planted(script):
-        is_told = run(program, ["audit"], edited.encode()) == told
+        is_told = run(programs, ["audit"], edited.encode()) == told
         tally.note_plant(name, is_told and any(logs.flaws_in(script, text, text + edited)))
 
 
-def play_list(program, seed, word, with_plants, tally):
+def play_list(programs, seed, word, with_plants, tally):
     script = LIST_OF[word](seed)
     if script is not None:
         of_kind = plants.PLANTS if word == "script" else plants.REST_PLANTS
-        play_script(program, script, of_kind if with_plants else None, f"a script ({script.kind}), {how_to_show(seed, word)}", tally)
+        play_script(programs, script, of_kind if with_plants else None, f"a script ({script.kind}), {how_to_show(seed, word)}", tally)
 
 
-def play_disturbed(program, with_plants, tally):
+def play_disturbed(programs, with_plants, tally):
     for script in disturbed():
         of = f"one publication ({script.kind} behind event {script.seed})"
-        play_script(program, script, [] if with_plants else None, of, tally)
+        play_script(programs, script, [] if with_plants else None, of, tally)
 
 
-def play_stream(program, seed, with_plants, tally):
+def play_stream(programs, seed, with_plants, tally):
     stream = streams.Stream(seed)
-    text, status = run(program, ["pipe"], stream.text)
+    text, status = run(programs, ["pipe"], stream.text)
     flaws = [] if status == stream.status else [Flaw(ENDED, f"status {status} (by the pages: {stream.status})")]
     flaws += stream.flaws_in(text)
     tally.note_stream(stream)
@@ -136,13 +142,13 @@ def play_stream(program, seed, with_plants, tally):
 
 def words_of(words):
     """What a command line asks for, by the names of its words; none where it is none."""
-    asked = {"lists": str(LISTS), "--seed": "1", "--program": None, "--show": None, "--plants": False}
+    asked = {"lists": str(LISTS), "--seed": "1", "--unproved": False, "--show": None, "--plants": False}
     words = list(words)
     while words:
         word = words.pop(0)
-        if word == "--plants":
+        if word in ("--plants", "--unproved"):
             asked[word] = True
-        elif word in ("--seed", "--program", "--show") and words:
+        elif word in ("--seed", "--show") and words:
             asked[word] = words.pop(0)
         elif word.isdecimal():
             asked["lists"] = word
@@ -170,12 +176,12 @@ def newer_source(program):
     return next((os.path.relpath(path, TOP) for path in sources if os.stat(path).st_mtime_ns > built), None)
 
 
-def cause_against(program, is_named):
-    """Why a program is not played; none where it is. One that the caller names may be of whatever sources."""
+def cause_against(program):
+    """Why a program is not played; none where it is."""
     if not os.access(program, os.X_OK):
         return f"there is no program {program}"
-    source = None if is_named else newer_source(program)
-    return f"{source} changed after the proved program was built" if source else None
+    source = newer_source(program)
+    return f"{source} changed after {program} was built" if source else None
 
 
 def main(words):
@@ -185,16 +191,17 @@ def main(words):
     seeds = range(int(asked["--seed"]), int(asked["--seed"]) + int(asked["lists"]))
     if asked["--show"]:
         return show(asked, seeds)
-    program, with_plants, tally = asked["--program"] or PROGRAM, asked["--plants"], Tally()
-    cause = cause_against(program, asked["--program"] is not None)
+    programs = {name: path_of(name, not asked["--unproved"]) for name in PROGRAM_OF.values()}
+    with_plants, tally = asked["--plants"], Tally()
+    cause = next(filter(None, map(cause_against, programs.values())), None)
     if cause:
         print(f"tools/dev drill: {cause}\n{HOW_TO_BUILD}", file=sys.stderr)
         return 2
-    play_disturbed(program, with_plants, tally)
+    play_disturbed(programs, with_plants, tally)
     for seed in seeds:
         for word in LIST_OF:
-            play_list(program, seed, word, with_plants, tally)
-        play_stream(program, seed, with_plants, tally)
+            play_list(programs, seed, word, with_plants, tally)
+        play_stream(programs, seed, with_plants, tally)
     names = [name for name, *_ in (*plants.PLANTS, *plants.REST_PLANTS, *logs.PLANTS, *streams.PLANTS)] if with_plants else []
     for line in tally.lines(names):
         print(line)

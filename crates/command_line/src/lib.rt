@@ -11,4 +11,6 @@
 
 mod line;
 
-pub use line::{line_status, status_of, tell_line, words};
+pub use line::{
+    BAD_LINE, line_status, report, status_of, tell_elsewhere, tell_line, tell_unreadable, words,
+};

@@ -1,22 +1,17 @@
-//! The program: `serve` serves a mesh on sockets, `node` one server of a mesh that a file describes, `check` tells what such a file means, `drain` has
-//! servers drain, `pipe` serves one client on standard input and output, `match`
-//! answers one question of matching, `script` plays what is done in a cluster, and `audit` audits a log of what was done in one.
+//! The router: `serve` serves a mesh on sockets, `node` one server of a mesh that a file describes, `check` tells what such a file means, `drain` has
+//! servers drain, and `pipe` serves one client on standard input and output. The other commands of its command line are those of `mesh_tools`.
 //!
 //! ```text
 //! nats_mesh serve --nodes 3 --port 4222
 //! ```
 #![tactic(auto)]
 
-use claim_cells::CellsRace;
 use claim_race::PlainRace;
-use command_line::{status_of, tell_line, words};
-use mesh_audit::{audit_run, script_audit_run};
+use command_line::{BAD_LINE, report, tell_elsewhere, tell_line, tell_unreadable, words};
 use mesh_pipe::{pipe_complaint, pipe_run, pipe_status};
-use mesh_script::{match_run, script_run};
 use mesh_serve::{NodeFault, ask_drain, check_mesh, serve, serve_node};
 use router_command::{Command, Given, NodeGiven, NodeOptions, Options, command_of};
 use std::alloc::Global;
-use std::fmt::Display;
 use std::fs::{File, Files};
 use std::io;
 use std::net::{Net, TcpListener, TcpStream};
@@ -25,21 +20,8 @@ use std::random::RandomSource;
 use std::rt::Clock;
 use std::sync::Wait;
 use std::thread::Threads;
-use sub_trie::TrieTable;
 use subj::NodeId;
 use wire_cut::Raw;
-
-/// The exit status of a command line that is no text, or has a number that is out of its range.
-const BAD_LINE: u8 = 2;
-
-/// Tells on standard error why something was not done. Gives the exit status.
-fn report<R: Eprint, E: Display + Drop>(rt: &R, ended: Result<(), E>) -> u8 {
-    let status = status_of(&ended);
-    if let Err(fault) = &ended {
-        let _ = eprintln!(rt; "nats_mesh: {fault}");
-    }
-    status
-}
 
 /// Serves one client.
 fn run_pipe<R: Input + Print + Eprint + Alloc<A = Global>>(rt: &R) -> u8 {
@@ -50,42 +32,6 @@ fn run_pipe<R: Input + Print + Eprint + Alloc<A = Global>>(rt: &R) -> u8 {
         let _ = eprintln!(rt; "nats_mesh: {complaint}");
     }
     pipe_status(ended)
-}
-
-/// Tells whether the pattern matches the subject.
-fn run_match<R: Print + Eprint + Alloc<A = Global>>(rt: &R, pattern: &str, subject: &str) -> u8 {
-    let mut sink = Raw::new(io::writer(rt));
-    let ended = match_run(
-        rt.alloc(),
-        pattern.as_bytes(),
-        subject.as_bytes(),
-        &mut sink,
-    );
-    report(rt, ended)
-}
-
-/// Plays a script.
-fn run_script<R: Input + Print + Eprint + Alloc<A = Global>>(rt: &R) -> u8 {
-    let mut source = Raw::new(rt.reader());
-    let mut sink = Raw::new(io::writer(rt));
-    let ended = script_run::<TrieTable, CellsRace, _, _>(rt.alloc(), &mut source, &mut sink);
-    report(rt, ended)
-}
-
-/// Plays a script, and writes what was published, subscribed and placed behind its text.
-fn run_script_listing<R: Input + Print + Eprint + Alloc<A = Global>>(rt: &R) -> u8 {
-    let mut source = Raw::new(rt.reader());
-    let mut sink = Raw::new(io::writer(rt));
-    let ended = script_audit_run::<TrieTable, CellsRace, _, _>(rt.alloc(), &mut source, &mut sink);
-    report(rt, ended)
-}
-
-/// Audits a log.
-fn run_audit<R: Input + Print + Eprint + Alloc<A = Global>>(rt: &R) -> u8 {
-    let mut source = Raw::new(rt.reader());
-    let mut sink = Raw::new(io::writer(rt));
-    let ended = audit_run(rt.alloc(), &mut source, &mut sink);
-    report(rt, ended)
 }
 
 /// Serves a mesh.
@@ -182,14 +128,13 @@ where
 {
     match command_of(rt.alloc(), words) {
         Ok(Command::Pipe) => run_pipe(rt),
-        Ok(Command::Match { pattern, subject }) => run_match(rt, pattern, subject),
-        Ok(Command::Script { audit: false }) => run_script(rt),
-        Ok(Command::Script { audit: true }) => run_script_listing(rt),
-        Ok(Command::Audit) => run_audit(rt),
         Ok(Command::Serve(given)) => run_serve(rt, given),
         Ok(Command::Drain { path, server }) => run_drain(rt, path, server),
         Ok(Command::Node(given)) => run_node(rt, given),
         Ok(Command::Check { path }) => report_node(rt, check_mesh(rt, path)),
+        Ok(Command::Match { .. } | Command::Script { .. } | Command::Audit) => {
+            tell_elsewhere(rt, "mesh_tools")
+        }
         Err(error) => tell_line(rt, &error),
     }
 }
@@ -197,13 +142,6 @@ where
 fn main(rt: HostRuntime) -> ExitCode {
     match words(&rt) {
         Ok(words) => ExitCode::from(run(&rt, &words)),
-        Err(error) => {
-            let _ = eprintln!(rt; "nats_mesh: the command line cannot be read: {error}");
-            if error.kind() == io::ErrorKind::InvalidData {
-                ExitCode::from(BAD_LINE)
-            } else {
-                ExitCode::FAILURE
-            }
-        }
+        Err(error) => ExitCode::from(tell_unreadable(&rt, &error)),
     }
 }
