@@ -6,5 +6,8 @@ pub mod Views
 pub mod Sound
 -- what stands behind the line of an entry
 pub mod Behind
--- how entries are kept: small ones as bytes one behind another, larger ones and last lines as they came
+-- how entries are kept: small ones as bytes one behind another, larger ones and last lines as they
+-- came
 pub mod Kept
+-- how the tails of a run are kept
+pub mod Tails

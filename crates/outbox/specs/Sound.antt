@@ -3,7 +3,8 @@ use Rattle.std.specs.Prelude.{◌≡◌, ℕ, ◌+◌, ◌≤◌, Bool, false, L
 use Rattle.outbox.specs.declared.outbox.TheConstants.{LAST_LINE_TEXT}
 use Rattle.outbox.specs.Views.{Written, size_of}
 
-pub record IsSound (entries : List Written) (capacity shown shown_bytes bytes : ℕ) (shut closing : Bool) (max_bytes : ℕ) : Type 0 where
+pub record IsSound (entries : List Written) (capacity shown shown_bytes bytes : ℕ)
+    (shut closing : Bool) (max_bytes : ℕ) : Type 0 where
   pub within : shown ≤ length entries
   pub counted : closing ≡ false → bytes ≡ size_of entries
   pub shown_counted : shut ≡ false → shown_bytes ≡ size_of (take shown entries)

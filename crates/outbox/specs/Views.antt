@@ -8,6 +8,8 @@ use Rattle.subj.specs.declared.identities.SubId.{SubId}
 use Rattle.outbox.specs.Bytes.{bytes_of}
 use Rattle.outbox.specs.declared.outbox.TheConstants.{LAST_LINE_TEXT}
 use Rattle.std.specs.Prelude.{Some, None}
+use Rattle.std.specs.Prelude.{map}
+use Rattle.outbox.specs.declared.entries.Mode.TheVariants.{Plain}
 
 -- an entry: what it is, and all its bytes
 pub record Written : Type 0 where
@@ -41,8 +43,12 @@ abbrev pub empty_backlog : Backlog
 empty_backlog = record { entries = []; shut = false }
 
 abbrev pub empty_outbox : ℕ → ℕ → Waiting
-empty_outbox max_entries max_bytes =
-    record { shown = empty_backlog; next = empty_backlog; max_entries = max_entries; max_bytes = max_bytes }
+empty_outbox max_entries max_bytes = record {
+  shown = empty_backlog;
+  next = empty_backlog;
+  max_entries = max_entries;
+  max_bytes = max_bytes;
+}
 
 abbrev pub size_of : List Written → ℕ
 size_of entries = sum_by (λ entry. length entry.bytes) entries
@@ -51,18 +57,53 @@ size_of entries = sum_by (λ entry. length entry.bytes) entries
 abbrev pub bytes_of_all : List Written → List ℕ
 bytes_of_all entries = flat_map (λ entry. entry.bytes) entries
 
--- an entry of this many bytes may be put: not behind the last line, and within both limits (profile)
+-- an entry of this many bytes may be put: not behind the last line, and within both limits
+-- (profile)
 abbrev pub has_room : ℕ → ℕ → ℕ → Backlog → Bool
 has_room max_entries max_bytes len backlog =
-    not backlog.shut && (nat_lt (length backlog.entries) max_entries && nat_le (size_of backlog.entries + len) max_bytes)
+    not backlog.shut
+    && (nat_lt (length backlog.entries) max_entries
+    && nat_le (size_of backlog.entries + len) max_bytes)
 
--- half of the entries that may wait do, or there is no room for half of the bytes that may, as behind a last line
+-- half of the entries that may wait do, or there is no room for half of the bytes that may, as
+-- behind a last line
 abbrev pub is_half_full : ℕ → ℕ → Backlog → Bool
 is_half_full max_entries max_bytes backlog =
-    nat_le (max_entries / 2) (length backlog.entries) || not (has_room max_entries max_bytes (max_bytes / 2) backlog)
+    nat_le (max_entries / 2) (length backlog.entries)
+    || not (has_room max_entries max_bytes (max_bytes / 2) backlog)
 
 abbrev pub with_entry : Written → Backlog → Backlog
 with_entry entry backlog = record { entries = backlog.entries ++ entry ∷ []; shut = backlog.shut }
+
+-- entries are put one behind another, in one piece
+abbrev pub with_entries : List Written → Backlog → Backlog
+with_entries entries backlog =
+    record { entries = backlog.entries ++ entries; shut = backlog.shut }
+
+-- all of these may be put: not behind the last line, and within both limits (profile)
+abbrev pub has_room_for_all : ℕ → ℕ → List Written → Backlog → Bool
+has_room_for_all max_entries max_bytes entries backlog =
+    not backlog.shut
+    && (nat_le (length backlog.entries + length entries) max_entries
+    && nat_le (size_of backlog.entries + size_of entries) max_bytes)
+
+-- what a message of a run has of its own: its publication, and its bytes behind the id of a
+-- subscription
+pub record Tail : Type 0 where
+  pub id : PubId
+  pub bytes : List ℕ
+
+-- how many bytes they have together
+abbrev pub tail_bytes : List Tail → ℕ
+tail_bytes tails = sum_by (λ tail. length tail.bytes) tails
+
+-- the head before each of these
+abbrev pub run_text : List ℕ → List Tail → List ℕ
+run_text head tails = flat_map (λ tail. head ++ tail.bytes) tails
+
+-- a message of each of these to one plain subscription, whose id ends the head
+abbrev pub message_run : SubId → List ℕ → List Tail → List Written
+message_run sub head tails = map (λ tail. spelt_entry tail.id sub Plain (head ++ tail.bytes)) tails
 
 -- the last line goes beyond both limits (profile)
 abbrev pub with_last : List ℕ → Backlog → Backlog

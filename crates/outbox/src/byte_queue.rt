@@ -1,9 +1,11 @@
 //! Bytes in order, put behind and dropped in front.
 
-ghost use Rattle.std.specs.Prelude.{◌≡◌, ◌+◌, ◌<◌, ◌≤◌, ◌^◌, ◌++◌, [], vec_len, vec_capacity, length, take, drop, Some, None, IfOk, OnOk, OnErr};
+ghost use Rattle.std.specs.Prelude.{◌≡◌, ◌+◌, ◌<◌, ◌≤◌, ◌^◌, ◌*◌, ◌++◌, [], vec_len, vec_capacity, length, take, drop, Some, None, IfOk, OnOk, OnErr};
 ghost use Rattle.outbox.specs.Bytes.{bytes_of};
+ghost use Rattle.outbox.specs.Views.{tail_bytes, run_text};
 
 use crate::entries::Entry;
+use crate::run_tails::RunTails;
 use line_fields::{CR_LF, append_reserved};
 use std::alloc::{AllocError, Global};
 use std::marker::Model;
@@ -131,6 +133,21 @@ impl ByteQueue {
         self.bytes.reserve(len)?;
         append_reserved(&mut self.bytes, head);
         append_reserved(&mut self.bytes, tail);
+        Ok(len)
+    }
+
+    /// Puts the messages of a run behind, each with this head. Gives how many bytes they have together. Want of memory leaves
+    /// all as it was.
+    pub(crate) fn push_run(&mut self, head: &[u8], tails: &RunTails) -> Result<usize, AllocError>
+        requires { length head.now * length tails.now + tail_bytes tails.now < 2 ^ 64 }
+        ensures len { IfOk result (λ len.
+            len ≡ length head.now * length tails.now + tail_bytes tails.now) }
+        ensures ok { OnOk result (self.new ≡ self.old ++ run_text head.now tails.now) }
+        ensures err { OnErr result (self.new ≡ self.old) }
+    {
+        let len = tails.run_len(head.len()).unwrap();
+        self.bytes.reserve(len)?;
+        tails.append_run(head, &mut self.bytes);
         Ok(len)
     }
 

@@ -95,7 +95,10 @@ impl Model for Entry {
     ghost use Rattle.std.specs.Prelude.{◌<◌, ◌^◌, length};
     ghost use Rattle.outbox.specs.Behind.{line_with_behind};
 
-    ghost view = { λ entry. record { tag = entry.tag; bytes = line_with_behind entry.line.items entry.behind } };
+    ghost view = { λ entry. record {
+      tag = entry.tag;
+      bytes = line_with_behind entry.line.items entry.behind;
+    } };
 
     ghost invariant = { λ entry. length (line_with_behind entry.line.items entry.behind) < 2 ^ 64 };
 }
@@ -141,7 +144,8 @@ impl Entry {
         payload: &Bytes,
     ) -> Result<Entry, AllocError>
         requires { length line.now + length payload.now + 4 < 2 ^ 64 }
-        ensures { IfOk result (λ entry. entry ≡ record { tag = tag; bytes = bytes_of line.now (Some payload.now) }) }
+        ensures { IfOk result (λ entry.
+            entry ≡ record { tag = tag; bytes = bytes_of line.now (Some payload.now) }) }
     {
         let line = Vec::from_slice(alloc, line)?;
         Ok(Entry::of_parts(tag, line, payload.clone()?))

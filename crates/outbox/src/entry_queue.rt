@@ -2,16 +2,18 @@
 
 ghost use Rattle.std.specs.Prelude.{◌≡◌, ℕ, ◌+◌, ◌-◌, ◌≤◌, ◌<◌, ◌^◌, Some, ◌++◌, ◌∷◌, [], length, take, drop, IfOk, OnOk, OnErr};
 ghost use Rattle.outbox.specs.Bytes.{bytes_of};
-ghost use Rattle.outbox.specs.Views.{size_of, bytes_of_all, reply_entry};
+ghost use Rattle.outbox.specs.Views.{size_of, bytes_of_all, reply_entry, message_run};
 ghost use Rattle.outbox.specs.Kept.{copied_of, written_in};
 
 use crate::byte_queue::ByteQueue;
 use crate::entries::{Entry, Tag};
 use crate::kept_queue::KeptQueue;
+use crate::run_tails::RunTails;
 use bytes::Bytes;
 use line_fields::CR_LF;
 use std::alloc::{AllocError, Global};
 use std::marker::Model;
+use subj::SubId;
 
 /// The most bytes of an entry that is copied where it is put, each CR LF among them. Larger ones stay as they came, and share
 /// their payload.
@@ -27,7 +29,8 @@ fn append_first(
 ) -> Result<(), AllocError>
     requires there { count ≤ length kept.now.items }
     requires text { copied_of kept.now.items ≤ length text.now }
-    ensures ok { OnOk result (out.new.items ≡ out.old.items ++ bytes_of_all (take count (written_in kept.now.items text.now))) }
+    ensures ok { OnOk result (out.new.items
+        ≡ out.old.items ++ bytes_of_all (take count (written_in kept.now.items text.now))) }
     ensures err { take (length out.old.items) out.new.items ≡ out.old.items }
 {
     let mut at = 0;
@@ -46,7 +49,8 @@ fn copy_first(
 ) -> Result<Vec<Entry>, AllocError>
     requires there { count ≤ length kept.now.items }
     requires text { copied_of kept.now.items ≤ length text.now }
-    ensures { IfOk result (λ copies. copies.items ≡ take count (written_in kept.now.items text.now)) }
+    ensures { IfOk result (λ copies.
+        copies.items ≡ take count (written_in kept.now.items text.now)) }
 {
     let mut copies = Vec::with_capacity(alloc, count)?;
     let mut at = 0;
@@ -75,7 +79,10 @@ impl Model for EntryQueue {
     ghost use Rattle.std.specs.Prelude.{◌≡◌, length};
     ghost use Rattle.outbox.specs.Kept.{written_in, copied_of};
 
-    ghost view = { λ q. record { entries = written_in q.kept.items q.text; places = q.kept.places } };
+    ghost view = { λ q. record {
+      entries = written_in q.kept.items q.text;
+      places = q.kept.places;
+    } };
 
     ghost invariant = { λ q. copied_of q.kept.items ≡ length q.text };
 }
@@ -147,7 +154,8 @@ impl EntryQueue {
     #[tactic(auto, using(crate::proofs::Seen::length_seen))]
     pub(crate) fn push_reply(&mut self, line: &[u8]) -> Result<(), AllocError>
         requires { length line.now + 2 < 2 ^ 64 }
-        ensures ok { OnOk result (self.new.entries ≡ self.old.entries ++ reply_entry line.now ∷ []) }
+        ensures ok { OnOk result
+            (self.new.entries ≡ self.old.entries ++ reply_entry line.now ∷ []) }
         ensures place { OnOk result (length self.new.entries + 1 ≤ self.new.places) }
         ensures err { OnErr result (self.new.entries ≡ self.old.entries) }
         ensures kept { self.old.places ≤ self.new.places }
@@ -168,7 +176,9 @@ impl EntryQueue {
         payload: &Bytes,
     ) -> Result<(), AllocError>
         requires { length line.now + length payload.now + 4 < 2 ^ 64 }
-        ensures ok { OnOk result (self.new.entries ≡ self.old.entries ++ record { tag = tag; bytes = bytes_of line.now (Some payload.now) } ∷ []) }
+        ensures ok { OnOk result (self.new.entries
+            ≡ self.old.entries
+            ++ record { tag = tag; bytes = bytes_of line.now (Some payload.now) } ∷ []) }
         ensures place { OnOk result (length self.new.entries + 1 ≤ self.new.places) }
         ensures err { OnErr result (self.new.entries ≡ self.old.entries) }
         ensures kept { self.old.places ≤ self.new.places }
@@ -189,7 +199,9 @@ impl EntryQueue {
         payload: &Bytes,
     ) -> Result<(), AllocError>
         requires { length line.now + length payload.now + 4 < 2 ^ 64 }
-        ensures ok { OnOk result (self.new.entries ≡ self.old.entries ++ record { tag = tag; bytes = bytes_of line.now (Some payload.now) } ∷ []) }
+        ensures ok { OnOk result (self.new.entries
+            ≡ self.old.entries
+            ++ record { tag = tag; bytes = bytes_of line.now (Some payload.now) } ∷ []) }
         ensures place { OnOk result (length self.new.entries + 1 ≤ self.new.places) }
         ensures err { OnErr result (self.new.entries ≡ self.old.entries) }
         ensures kept { self.old.places ≤ self.new.places }
@@ -205,7 +217,9 @@ impl EntryQueue {
     #[tactic(auto, using(crate::proofs::Seen::length_seen))]
     fn push_text(&mut self, tag: Tag, line: &[u8], payload: &[u8]) -> Result<(), AllocError>
         requires { length line.now + length payload.now + 4 < 2 ^ 64 }
-        ensures ok { OnOk result (self.new.entries ≡ self.old.entries ++ record { tag = tag; bytes = bytes_of line.now (Some payload.now) } ∷ []) }
+        ensures ok { OnOk result (self.new.entries
+            ≡ self.old.entries
+            ++ record { tag = tag; bytes = bytes_of line.now (Some payload.now) } ∷ []) }
         ensures place { OnOk result (length self.new.entries + 1 ≤ self.new.places) }
         ensures err { OnErr result (self.new.entries ≡ self.old.entries) }
         ensures kept { self.old.places ≤ self.new.places }
@@ -226,7 +240,8 @@ impl EntryQueue {
         tail: &[u8],
     ) -> Result<(), AllocError>
         requires { length head.now + length tail.now < 2 ^ 64 }
-        ensures ok { OnOk result (self.new.entries ≡ self.old.entries ++ record { tag = tag; bytes = head.now ++ tail.now } ∷ []) }
+        ensures ok { OnOk result (self.new.entries
+            ≡ self.old.entries ++ record { tag = tag; bytes = head.now ++ tail.now } ∷ []) }
         ensures place { OnOk result (length self.new.entries + 1 ≤ self.new.places) }
         ensures err { OnErr result (self.new.entries ≡ self.old.entries) }
         ensures kept { self.old.places ≤ self.new.places }
@@ -235,6 +250,31 @@ impl EntryQueue {
         let len = self.text.push_parts(head, tail)?;
         self.kept.push_copied(tag, len);
         Ok(())
+    }
+
+    /// Puts the messages of a run to a plain subscription behind, each with this head, and takes the memory for the place of one
+    /// more. All bytes are copied, however many they are. Gives how many they are. Want of memory leaves all as it was.
+    #[tactic(auto, using(crate::proofs::Seen::length_seen))]
+    pub(crate) fn push_run(
+        &mut self,
+        sub: SubId,
+        head: &[u8],
+        tails: &RunTails,
+    ) -> Result<usize, AllocError>
+        requires few { length self.old.entries + length tails.now < 2 ^ 64 }
+        requires small { size_of (message_run sub head.now tails.now) < 2 ^ 64 }
+        ensures len { IfOk result (λ len. len ≡ size_of (message_run sub head.now tails.now)) }
+        ensures ok { OnOk result
+            (self.new.entries ≡ self.old.entries ++ message_run sub head.now tails.now) }
+        ensures place { OnOk result (length self.old.entries + 1 ≤ self.old.places
+            → length self.new.entries + 1 ≤ self.new.places) }
+        ensures err { OnErr result (self.new.entries ≡ self.old.entries) }
+        ensures kept { self.old.places ≤ self.new.places }
+    {
+        self.kept.reserve_run(tails.len())?;
+        let len = self.text.push_run(head, tails)?;
+        self.kept.push_run(sub, head.len(), tails.marks());
+        Ok(len)
     }
 
     /// Puts an entry behind, whole. Want of memory leaves all as it was.
@@ -251,7 +291,8 @@ impl EntryQueue {
     #[tactic(auto, using(crate::proofs::Seen::seen_whole, crate::proofs::Seen::copied_whole, crate::proofs::Seen::length_seen))]
     pub(crate) fn push_whole_reserved(&mut self, entry: Entry)
         requires { length self.old.entries + 1 ≤ self.old.places }
-        ensures { self.new ≡ record { entries = self.old.entries ++ entry ∷ []; places = self.old.places } }
+        ensures { self.new
+            ≡ record { entries = self.old.entries ++ entry ∷ []; places = self.old.places } }
     {
         self.kept.push_whole_reserved(entry);
     }
@@ -260,7 +301,10 @@ impl EntryQueue {
     fn drop_last(&mut self)
         requires { 0 < length self.old.entries }
         ensures entries { self.new.entries ≡ take (length self.old.entries - 1) self.old.entries }
-        ensures places { (count : ℕ) → count ≤ length self.new.entries → count + 1 ≤ self.old.places → count + 1 ≤ self.new.places }
+        ensures places { (count : ℕ)
+            → count ≤ length self.new.entries
+            → count + 1 ≤ self.old.places
+            → count + 1 ≤ self.new.places }
     {
         let copied = self.kept.pop_last();
         let left = self.text.as_slice().len() - copied;
@@ -282,7 +326,8 @@ impl EntryQueue {
     #[tactic(auto, using(crate::proofs::Seen::length_seen))]
     fn drop_first(&mut self, bytes: &mut usize)
         ensures rest { self.new.entries ≡ drop 1 self.old.entries }
-        ensures place { length self.old.entries + 1 ≤ self.old.places → length self.new.entries + 1 ≤ self.new.places }
+        ensures place { length self.old.entries + 1 ≤ self.old.places
+            → length self.new.entries + 1 ≤ self.new.places }
         ensures bytes { bytes.new ≡ bytes.old - size_of (take 1 self.old.entries) }
     {
         let (all, copied) = self.kept.pop_first();
@@ -293,7 +338,8 @@ impl EntryQueue {
     /// Drops the first entries, and takes their bytes off the count.
     pub(crate) fn drop_front(&mut self, count: usize, bytes: &mut usize)
         ensures rest { self.new.entries ≡ drop count self.old.entries }
-        ensures place { length self.old.entries + 1 ≤ self.old.places → length self.new.entries + 1 ≤ self.new.places }
+        ensures place { length self.old.entries + 1 ≤ self.old.places
+            → length self.new.entries + 1 ≤ self.new.places }
         ensures bytes { bytes.new ≡ bytes.old - size_of (take count self.old.entries) }
     {
         for dropped in 0..count {
@@ -306,7 +352,8 @@ impl EntryQueue {
     #[tactic(auto, using(crate::proofs::Seen::length_seen))]
     pub(crate) fn append_front(&self, count: usize, out: &mut Vec<u8>) -> Result<(), AllocError>
         requires { count ≤ length self.now.entries }
-        ensures ok { OnOk result (out.new.items ≡ out.old.items ++ bytes_of_all (take count self.now.entries)) }
+        ensures ok { OnOk result
+            (out.new.items ≡ out.old.items ++ bytes_of_all (take count self.now.entries)) }
         ensures err { OnErr result (out.new.items ≡ out.old.items) }
     {
         let before = out.len();
@@ -321,7 +368,8 @@ impl EntryQueue {
     /// all as it was.
     #[tactic(auto, using(crate::proofs::Seen::copied_alone))]
     pub(crate) fn move_all(&mut self, out: &mut Vec<u8>) -> Result<(), AllocError>
-        ensures moved { OnOk result (out.new.items ≡ out.old.items ++ bytes_of_all self.old.entries) }
+        ensures moved { OnOk result
+            (out.new.items ≡ out.old.items ++ bytes_of_all self.old.entries) }
         ensures left { OnOk result (self.new.entries ≡ []) }
         ensures place { OnOk result (1 ≤ self.new.places) }
         ensures same { OnErr result (self.new ≡ self.old) }

@@ -1,24 +1,28 @@
 //! How entries are kept, in order.
 
-ghost use Rattle.std.specs.Prelude.{◌≡◌, ℕ, ◌+◌, ◌≤◌, ◌<◌, List, ◌++◌, ◌∷◌, [], false, filter, length, take, drop, IfOk, OnOk, OnErr};
+ghost use Rattle.std.specs.Prelude.{◌≡◌, ℕ, ◌+◌, ◌≤◌, ◌<◌, ◌^◌, List, ◌++◌, ◌∷◌, [], false, map, filter, length, take, drop, IfOk, OnOk, OnErr};
 ghost use Rattle.std.specs.VecDeque.{deque_capacity};
 ghost use Rattle.outbox.specs.Views.{size_of};
 ghost use Rattle.outbox.specs.declared.kept.Kept.{Kept as KeptEntry};
 ghost use Rattle.outbox.specs.declared.kept.Kept.TheVariants.{Copied, Whole};
-ghost use Rattle.outbox.specs.Kept.{copied_len, copied_of, kept_at, kept_of, is_whole as is_kept_whole, written_at, written_in};
+ghost use Rattle.outbox.specs.Kept.{copied_len, copied_of, kept_at, kept_of, kept_run, mark_in_run, is_whole as is_kept_whole, written_at, written_in};
 
-use crate::entries::{Entry, Tag};
+use crate::entries::{Entry, Mode, Tag};
 use crate::kept::{Kept, Mark};
+use crate::run_tails::TailMark;
 use std::alloc::{AllocError, Global};
 use std::collections::VecDeque;
 use std::marker::Model;
+use subj::SubId;
 
 /// How many places stay at most while nothing waits.
 const KEPT_PLACES: usize = 8;
 
 /// How many bytes an entry has, and how many of them were copied.
 fn sizes_of(kept: &Kept) -> (usize, usize)
-    ensures all { (text : List ℕ) → copied_len kept.now ≤ length text → result.0 ≡ length (written_at kept.now text).bytes }
+    ensures all { (text : List ℕ)
+        → copied_len kept.now ≤ length text
+        → result.0 ≡ length (written_at kept.now text).bytes }
     ensures copied { result.1 ≡ copied_len kept.now }
 {
     match kept {
@@ -63,7 +67,8 @@ fn append_copied(len: usize, text: &[u8], out: &mut Vec<u8>) -> Result<usize, Al
 fn append_kept(kept: &Kept, text: &[u8], out: &mut Vec<u8>) -> Result<usize, AllocError>
     requires { copied_len kept.now ≤ length text.now }
     ensures len { IfOk result (λ len. len ≡ copied_len kept.now) }
-    ensures ok { OnOk result (out.new.items ≡ out.old.items ++ (written_at kept.now text.now).bytes) }
+    ensures ok { OnOk result
+        (out.new.items ≡ out.old.items ++ (written_at kept.now text.now).bytes) }
     ensures err { OnErr result (out.new.items ≡ out.old.items) }
 {
     match kept {
@@ -83,7 +88,8 @@ fn copy_copied(
     text: &[u8],
 ) -> Result<(Entry, usize), AllocError>
     requires { len ≤ length text.now }
-    ensures { IfOk result (λ copy. (copy.0 ≡ record { tag = tag; bytes = take len text.now }) × (copy.1 ≡ len)) }
+    ensures { IfOk result (λ copy.
+        (copy.0 ≡ record { tag = tag; bytes = take len text.now }) × (copy.1 ≡ len)) }
 {
     let bytes = Vec::from_slice(alloc, &text[..len])?;
     Ok((Entry::of_bytes(tag, bytes), len))
@@ -92,7 +98,8 @@ fn copy_copied(
 /// A copy of an entry, and how many of `text`, which begins with the entry's own, it has.
 fn copy_of(alloc: Global, kept: &Kept, text: &[u8]) -> Result<(Entry, usize), AllocError>
     requires { copied_len kept.now ≤ length text.now }
-    ensures { IfOk result (λ copy. (copy.0 ≡ written_at kept.now text.now) × (copy.1 ≡ copied_len kept.now)) }
+    ensures { IfOk result (λ copy.
+        (copy.0 ≡ written_at kept.now text.now) × (copy.1 ≡ copied_len kept.now)) }
 {
     match kept {
         Kept::Copied { tag, len } => copy_copied(alloc, tag.try_clone(alloc)?, *len, text),
@@ -104,7 +111,9 @@ fn copy_of(alloc: Global, kept: &Kept, text: &[u8]) -> Result<(Entry, usize), Al
 fn pop_first(kept: &mut VecDeque<Kept>) -> (usize, usize)
     ensures rest { kept.new.items ≡ drop 1 kept.old.items }
     ensures capacity { deque_capacity kept.new ≡ deque_capacity kept.old }
-    ensures all { (text : List ℕ) → copied_of kept.old.items ≤ length text → result.0 ≡ size_of (take 1 (written_in kept.old.items text)) }
+    ensures all { (text : List ℕ)
+        → copied_of kept.old.items ≤ length text
+        → result.0 ≡ size_of (take 1 (written_in kept.old.items text)) }
     ensures copied { result.1 ≡ copied_of (take 1 kept.old.items) }
 {
     match kept.pop_front() {
@@ -113,11 +122,46 @@ fn pop_first(kept: &mut VecDeque<Kept>) -> (usize, usize)
     }
 }
 
+/// Puts the marks of a run behind, whose head has so many bytes, where there is room for them. Takes no memory.
+fn push_marks(marks: &mut VecDeque<Mark>, sub: SubId, head_len: usize, tails: &[TailMark])
+    requires room { length marks.old.items + length tails.now ≤ deque_capacity marks.old }
+    requires fits { copied_of (kept_run sub head_len tails.now) < 2 ^ 64 }
+    ensures items { marks.new.items ≡ marks.old.items ++ map (mark_in_run sub head_len) tails.now }
+    ensures capacity { deque_capacity marks.new ≡ deque_capacity marks.old }
+{
+    for tail in tails {
+        marks.push_back_reserved(Mark::Message {
+            id: tail.id,
+            sub,
+            len: head_len + tail.len,
+        });
+    }
+}
+
+/// Puts the entries of a run behind, whose head has so many bytes, where there is room for them. Takes no memory.
+fn push_copies(kept: &mut VecDeque<Kept>, sub: SubId, head_len: usize, tails: &[TailMark])
+    requires room { length kept.old.items + length tails.now ≤ deque_capacity kept.old }
+    requires fits { copied_of (kept_run sub head_len tails.now) < 2 ^ 64 }
+    ensures items { kept.new.items ≡ kept.old.items ++ kept_run sub head_len tails.now }
+    ensures capacity { deque_capacity kept.new ≡ deque_capacity kept.old }
+{
+    for tail in tails {
+        kept.push_back_reserved(Kept::Copied {
+            tag: Tag::Msg {
+                id: tail.id,
+                sub,
+                mode: Mode::Plain,
+            },
+            len: head_len + tail.len,
+        });
+    }
+}
+
 /// How entries are kept, in order: the first ones by their marks, up to the first that owns anything. While all own nothing, all
 /// are dropped at once.
 ///
-/// Seen as the list of what is kept, how many there can be without more memory where the last one owns anything, and for how many
-/// marks more there is room.
+/// Seen as the list of what is kept, how many there can be without more memory where the last one owns anything, for how many
+/// marks more there is room, and how many stand behind all that have marks.
 #[derive(Drop)]
 pub(crate) struct KeptQueue {
     marks: VecDeque<Mark>,
@@ -138,6 +182,7 @@ impl Model for KeptQueue {
       items = map kept_of q.marks.items ++ q.others.items;
       places = length q.marks.items + deque_capacity q.others;
       spare = deque_capacity q.marks - length q.marks.items;
+      behind = length q.others.items;
     } };
 
     ghost invariant = { λ q. 1 ≤ deque_capacity q.others };
@@ -183,7 +228,8 @@ impl KeptQueue {
         requires spare { 1 ≤ self.old.spare }
         ensures items { self.new.items ≡ self.old.items ++ Copied tag len ∷ [] }
         ensures kept { self.old.places ≤ self.new.places }
-        ensures place { length self.old.items + 2 ≤ self.old.places → length self.new.items + 1 ≤ self.new.places }
+        ensures place { length self.old.items + 2 ≤ self.old.places
+            → length self.new.items + 1 ≤ self.new.places }
     {
         if self.others.is_empty() {
             if let Some(mark) = Mark::of(&tag, len) {
@@ -192,6 +238,40 @@ impl KeptQueue {
             }
         }
         self.others.push_back_reserved(Kept::Copied { tag, len });
+    }
+
+    /// Takes the memory for the places of a run of so many entries that own nothing, and of one entry behind them.
+    pub(crate) fn reserve_run(&mut self, count: usize) -> Result<(), AllocError>
+        requires { length self.old.items + count < 2 ^ 64 }
+        ensures items { self.new.items ≡ self.old.items }
+        ensures behind { self.new.behind ≡ self.old.behind }
+        ensures marks { OnOk result (self.new.behind ≡ 0 → count ≤ self.new.spare) }
+        ensures places { OnOk result
+            (0 < self.new.behind → length self.new.items + count + 1 ≤ self.new.places) }
+        ensures kept { self.old.places ≤ self.new.places }
+    {
+        if self.others.is_empty() {
+            return self.marks.reserve(count);
+        }
+        self.others.reserve(count + 1)
+    }
+
+    /// Puts the entries of a run behind, whose head has so many bytes, where there is room for them. Takes no memory.
+    pub(crate) fn push_run(&mut self, sub: SubId, head_len: usize, tails: &[TailMark])
+        requires marks { self.old.behind ≡ 0 → length tails.now ≤ self.old.spare }
+        requires places { 0 < self.old.behind
+            → length self.old.items + length tails.now + 1 ≤ self.old.places }
+        requires fits { copied_of (kept_run sub head_len tails.now) < 2 ^ 64 }
+        ensures items { self.new.items ≡ self.old.items ++ kept_run sub head_len tails.now }
+        ensures kept { self.old.places ≤ self.new.places }
+        ensures place { length self.old.items + 1 ≤ self.old.places
+            → length self.new.items + 1 ≤ self.new.places }
+    {
+        if self.others.is_empty() {
+            push_marks(&mut self.marks, sub, head_len, tails);
+        } else {
+            push_copies(&mut self.others, sub, head_len, tails);
+        }
     }
 
     /// Puts an entry behind, whole, for which there is a place. Takes no memory.
@@ -216,8 +296,11 @@ impl KeptQueue {
     /// Drops the first entry. Gives how many bytes it had, and how many of them were copied.
     pub(crate) fn pop_first(&mut self) -> (usize, usize)
         ensures rest { self.new.items ≡ drop 1 self.old.items }
-        ensures place { length self.old.items + 1 ≤ self.old.places → length self.new.items + 1 ≤ self.new.places }
-        ensures all { (text : List ℕ) → copied_of self.old.items ≤ length text → result.0 ≡ size_of (take 1 (written_in self.old.items text)) }
+        ensures place { length self.old.items + 1 ≤ self.old.places
+            → length self.new.items + 1 ≤ self.new.places }
+        ensures all { (text : List ℕ)
+            → copied_of self.old.items ≤ length text
+            → result.0 ≡ size_of (take 1 (written_in self.old.items text)) }
         ensures copied { result.1 ≡ copied_of (take 1 self.old.items) }
     {
         match self.marks.pop_front() {
@@ -229,8 +312,13 @@ impl KeptQueue {
     /// Drops the last entry. Gives how many of its bytes were copied.
     pub(crate) fn pop_last(&mut self) -> usize
         requires { 0 < length self.old.items }
-        ensures rest { (last : KeptEntry) × (self.old.items ≡ self.new.items ++ last ∷ []) × (copied_len last ≡ result) }
-        ensures places { (count : ℕ) → count ≤ length self.new.items → count + 1 ≤ self.old.places → count + 1 ≤ self.new.places }
+        ensures rest { (last : KeptEntry)
+            × (self.old.items ≡ self.new.items ++ last ∷ [])
+            × (copied_len last ≡ result) }
+        ensures places { (count : ℕ)
+            → count ≤ length self.new.items
+            → count + 1 ≤ self.old.places
+            → count + 1 ≤ self.new.places }
     {
         if let Some(last) = self.others.pop_back() {
             return sizes_of(&last).1;
@@ -245,7 +333,9 @@ impl KeptQueue {
     /// How many bytes the entry at a place has, and how many of them were copied.
     pub(crate) fn sizes(&self, place: usize) -> (usize, usize)
         requires { place < length self.now.items }
-        ensures all { (text : List ℕ) → copied_len (kept_at self.now.items place) ≤ length text → result.0 ≡ length (written_at (kept_at self.now.items place) text).bytes }
+        ensures all { (text : List ℕ)
+            → copied_len (kept_at self.now.items place) ≤ length text
+            → result.0 ≡ length (written_at (kept_at self.now.items place) text).bytes }
         ensures copied { result.1 ≡ copied_len (kept_at self.now.items place) }
     {
         if place < self.marks.len() {
@@ -266,7 +356,8 @@ impl KeptQueue {
         requires place { place < length self.now.items }
         requires text { copied_len (kept_at self.now.items place) ≤ length text.now }
         ensures len { IfOk result (λ len. len ≡ copied_len (kept_at self.now.items place)) }
-        ensures ok { OnOk result (out.new.items ≡ out.old.items ++ (written_at (kept_at self.now.items place) text.now).bytes) }
+        ensures ok { OnOk result (out.new.items
+            ≡ out.old.items ++ (written_at (kept_at self.now.items place) text.now).bytes) }
         ensures err { OnErr result (out.new.items ≡ out.old.items) }
     {
         if place < self.marks.len() {
@@ -284,7 +375,9 @@ impl KeptQueue {
     ) -> Result<(Entry, usize), AllocError>
         requires place { place < length self.now.items }
         requires text { copied_len (kept_at self.now.items place) ≤ length text.now }
-        ensures { IfOk result (λ copy. (copy.0 ≡ written_at (kept_at self.now.items place) text.now) × (copy.1 ≡ copied_len (kept_at self.now.items place))) }
+        ensures { IfOk result (λ copy.
+            (copy.0 ≡ written_at (kept_at self.now.items place) text.now)
+            × (copy.1 ≡ copied_len (kept_at self.now.items place))) }
     {
         if place < self.marks.len() {
             let mark = self.marks[place];

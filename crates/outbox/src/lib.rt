@@ -8,8 +8,8 @@
 //! }
 //! ```
 //!
-//! In reading order: `entries` is what waits, `kept` how one entry is kept, `byte_queue`, `kept_queue` and `entry_queue` how all are,
-//! and `outbox` is the outbox.
+//! In reading order: `entries` is what waits, `run_tails` what the messages of a run have of their own, `kept` how one entry is kept,
+//! `byte_queue`, `kept_queue` and `entry_queue` how all are, and `outbox` is the outbox.
 #![tactic(auto)]
 
 mod byte_queue;
@@ -18,7 +18,9 @@ mod entry_queue;
 mod kept;
 mod kept_queue;
 mod outbox;
+mod run_tails;
 
 pub use entries::{Entry, Mode, Tag};
 pub use entry_queue::COPIED_BYTES;
 pub use outbox::{LAST_LINE_TEXT, Outbox};
+pub use run_tails::RunTails;

@@ -2,10 +2,11 @@
 
 ghost use Rattle.std.specs.Prelude.{◌≡◌, ◌+◌, ◌-◌, ◌≤◌, ◌<◌, ◌++◌, ◌==◌, vec_capacity, length, take, [], true, false, IfOk, OnOk, OnErr, IsTrue, Some, None, ◌^◌};
 ghost use Rattle.outbox.specs.Bytes.{bytes_of};
-ghost use Rattle.outbox.specs.Views.{Waiting, empty_outbox, bytes_of_all, size_of, has_room, is_half_full, reply_entry, message_entry, spelt_entry, with_entry, with_last, without_first, on_both, on_shown, takes_last};
+ghost use Rattle.outbox.specs.Views.{Waiting, empty_outbox, bytes_of_all, size_of, has_room, is_half_full, reply_entry, message_entry, message_run, spelt_entry, has_room_for_all, with_entry, with_entries, with_last, without_first, on_both, on_shown, takes_last};
 
 use crate::entries::{Entry, Mode, Tag};
 use crate::entry_queue::EntryQueue;
+use crate::run_tails::{RunTails, is_within};
 use bytes::Bytes;
 use line_fields::CR_LF;
 use std::alloc::{AllocError, Global};
@@ -58,7 +59,10 @@ impl Model for Outbox {
       max_bytes = b.max_bytes;
     } };
 
-    ghost invariant = { λ b. IsSound b.entries.entries b.entries.places b.shown b.shown_bytes b.bytes b.shut b.closing b.max_bytes × HasLastLine b.shut b.last_line.items (vec_capacity b.last_line) };
+    ghost invariant = { λ b.
+        IsSound b.entries.entries b.entries.places b.shown b.shown_bytes b.bytes b.shut b.closing
+        b.max_bytes
+        × HasLastLine b.shut b.last_line.items (vec_capacity b.last_line) };
 }
 
 /// Takes the memory that is kept for a last line, and writes this one there.
@@ -161,13 +165,28 @@ impl Outbox {
     /// Whether an answer of this line, given without its CR LF, may be put behind all that was put or
     /// staged.
     pub fn room_for(&self, line: &[u8]) -> bool
-        ensures room { result ≡ has_room self.now.max_entries self.now.max_bytes (length (bytes_of line.now None)) self.now.next }
+        ensures room { result
+            ≡ has_room self.now.max_entries self.now.max_bytes (length (bytes_of line.now None))
+            self.now.next }
         ensures fits { IsTrue result → length line.now + 2 < 2 ^ 64 }
     {
         match line.len().checked_add(CR_LF.len()) {
             None => false,
             Some(len) => self.room(len),
         }
+    }
+
+    /// Whether the messages of a run to a plain subscription may all be put behind all that was put or staged, each with this head:
+    /// none where there is a last line, and none beyond a limit. Takes no memory.
+    #[tactic(auto, using(crate::proofs::Runs::run_length, crate::proofs::Runs::run_size))]
+    pub fn room_for_run(&self, sub: SubId, head: &[u8], tails: &RunTails) -> bool
+        ensures { result
+            ≡ has_room_for_all self.now.max_entries self.now.max_bytes
+            (message_run sub head.now tails.now) self.now.next }
+    {
+        !self.closing
+            && is_within(self.entries.len(), tails.len(), self.max_entries)
+            && tails.fit(head.len(), self.bytes, self.max_bytes)
     }
 
     /// Drops what was staged, and puts the last line, given without its CR LF, beyond both limits. Whether it was put: not
@@ -201,8 +220,10 @@ impl Outbox {
 
     /// Puts an entry behind all that was put or staged, unseen. Want of memory leaves all as it was.
     pub fn stage(&mut self, entry: Entry) -> Result<(), AllocError>
-        requires { IsTrue (has_room self.old.max_entries self.old.max_bytes (length entry.bytes) self.old.next) }
-        ensures ok { OnOk result (self.new ≡ record self.old { next = with_entry entry self.old.next }) }
+        requires { IsTrue
+            (has_room self.old.max_entries self.old.max_bytes (length entry.bytes) self.old.next) }
+        ensures ok { OnOk result
+            (self.new ≡ record self.old { next = with_entry entry self.old.next }) }
         ensures err { OnErr result (self.new ≡ self.old) }
     {
         let size = entry.len();
@@ -215,8 +236,10 @@ impl Outbox {
     /// [`Entry::reply`]. The line, given without its CR LF, is copied. Want of memory leaves all as it was.
     pub fn stage_reply(&mut self, line: &[u8]) -> Result<(), AllocError>
         requires fits { length line.now + 2 < 2 ^ 64 }
-        requires room { IsTrue (has_room self.old.max_entries self.old.max_bytes (length (bytes_of line.now None)) self.old.next) }
-        ensures ok { OnOk result (self.new ≡ record self.old { next = with_entry (reply_entry line.now) self.old.next }) }
+        requires room { IsTrue (has_room self.old.max_entries self.old.max_bytes
+            (length (bytes_of line.now None)) self.old.next) }
+        ensures ok { OnOk result (self.new
+            ≡ record self.old { next = with_entry (reply_entry line.now) self.old.next }) }
         ensures err { OnErr result (self.new ≡ self.old) }
     {
         let len = line.len() + CR_LF.len();
@@ -237,8 +260,11 @@ impl Outbox {
         payload: &Bytes,
     ) -> Result<(), AllocError>
         requires fits { length line.now + length payload.now + 4 < 2 ^ 64 }
-        requires room { IsTrue (has_room self.old.max_entries self.old.max_bytes (length (bytes_of line.now (Some payload.now))) self.old.next) }
-        ensures ok { OnOk result (self.new ≡ record self.old { next = with_entry (message_entry id sub mode line.now payload.now) self.old.next }) }
+        requires room { IsTrue (has_room self.old.max_entries self.old.max_bytes
+            (length (bytes_of line.now (Some payload.now))) self.old.next) }
+        ensures ok { OnOk result (self.new ≡ record self.old {
+          next = with_entry (message_entry id sub mode line.now payload.now) self.old.next;
+        }) }
         ensures err { OnErr result (self.new ≡ self.old) }
     {
         let len = line.len() + payload.len() + 2 * CR_LF.len();
@@ -261,8 +287,11 @@ impl Outbox {
         tail: &[u8],
     ) -> Result<(), AllocError>
         requires fits { length head.now + length tail.now < 2 ^ 64 }
-        requires room { IsTrue (has_room self.old.max_entries self.old.max_bytes (length (head.now ++ tail.now)) self.old.next) }
-        ensures ok { OnOk result (self.new ≡ record self.old { next = with_entry (spelt_entry id sub mode (head.now ++ tail.now)) self.old.next }) }
+        requires room { IsTrue (has_room self.old.max_entries self.old.max_bytes
+            (length (head.now ++ tail.now)) self.old.next) }
+        ensures ok { OnOk result (self.new ≡ record self.old {
+          next = with_entry (spelt_entry id sub mode (head.now ++ tail.now)) self.old.next;
+        }) }
         ensures err { OnErr result (self.new ≡ self.old) }
     {
         let len = head.len() + tail.len();
@@ -272,12 +301,29 @@ impl Outbox {
         Ok(())
     }
 
+    /// Puts the messages of a run to a plain subscription behind all that was put or staged, unseen: what [`Outbox::stage_parts`]
+    /// does for one after the other, each with this head and its own tail. Memory is taken once, for all of them. All bytes are
+    /// copied, however many they are. Want of memory leaves all as it was.
+    pub fn stage_run(&mut self, sub: SubId, head: &[u8], tails: &RunTails) -> Result<(), AllocError>
+        requires { IsTrue (has_room_for_all self.old.max_entries self.old.max_bytes
+            (message_run sub head.now tails.now) self.old.next) }
+        ensures ok { OnOk result (self.new ≡ record self.old {
+          next = with_entries (message_run sub head.now tails.now) self.old.next;
+        }) }
+        ensures err { OnErr result (self.new ≡ self.old) }
+    {
+        let len = self.entries.push_run(sub, head, tails)?;
+        self.bytes += len;
+        Ok(())
+    }
+
     /// Puts the last line, given without its CR LF, beyond both limits, unseen. Want of memory leaves
     /// all as it was.
     pub fn stage_last(&mut self, line: &[u8]) -> Result<(), AllocError>
         requires once { self.old.next.shut ≡ false }
         requires small { length line.now ≤ LAST_LINE_TEXT }
-        ensures ok { OnOk result (self.new ≡ record self.old { next = with_last line.now self.old.next }) }
+        ensures ok { OnOk result
+            (self.new ≡ record self.old { next = with_last line.now self.old.next }) }
         ensures err { OnErr result (self.new ≡ self.old) }
     {
         let text = Vec::from_slice(self.alloc, line)?;
@@ -314,8 +360,8 @@ impl Outbox {
         self.shown_bytes = self.bytes;
     }
 
-    /// Whether anything is staged.
-    fn has_staged(&self) -> bool
+    /// Whether anything is staged: where not, what waits is all there is.
+    pub fn has_staged(&self) -> bool
         ensures { result ≡ false → self.now.next ≡ self.now.shown }
     {
         self.shown != self.entries.len() || self.shut != self.closing
@@ -324,7 +370,8 @@ impl Outbox {
     /// Gives and removes the first entries that wait, or all where there are fewer, and drops what was staged. Want of memory
     /// leaves all as it was.
     pub fn take(&mut self, count: usize) -> Result<Vec<Entry>, AllocError>
-        ensures entries { IfOk result (λ entries. entries.items ≡ take count self.old.shown.entries) }
+        ensures entries { IfOk result (λ entries.
+            entries.items ≡ take count self.old.shown.entries) }
         ensures ok { OnOk result (self.new ≡ on_shown (without_first count) self.old) }
         ensures err { OnErr result (self.new ≡ self.old) }
     {
@@ -339,8 +386,10 @@ impl Outbox {
     /// entries. Want of memory leaves all as it was.
     fn take_all_bytes(&mut self, out: &mut Vec<u8>) -> Result<(), AllocError>
         requires { self.old.next ≡ self.old.shown }
-        ensures bytes { OnOk result (out.new.items ≡ out.old.items ++ bytes_of_all self.old.shown.entries) }
-        ensures ok { OnOk result (self.new ≡ on_both (λ backlog. record { entries = []; shut = backlog.shut }) self.old) }
+        ensures bytes { OnOk result
+            (out.new.items ≡ out.old.items ++ bytes_of_all self.old.shown.entries) }
+        ensures ok { OnOk result (self.new
+            ≡ on_both (λ backlog. record { entries = []; shut = backlog.shut }) self.old) }
         ensures err { OnErr result (self.new ≡ self.old) }
         ensures out { OnErr result (out.new.items ≡ out.old.items) }
     {
@@ -366,7 +415,8 @@ impl Outbox {
         requires settled { self.old.next ≡ self.old.shown }
         requires there { count ≤ length self.old.shown.entries }
         ensures taken { IfOk result (λ taken. taken ≡ length (take count self.old.shown.entries)) }
-        ensures bytes { OnOk result (out.new.items ≡ out.old.items ++ bytes_of_all (take count self.old.shown.entries)) }
+        ensures bytes { OnOk result
+            (out.new.items ≡ out.old.items ++ bytes_of_all (take count self.old.shown.entries)) }
         ensures ok { OnOk result (self.new ≡ on_both (without_first count) self.old) }
         ensures err { OnErr result (self.new ≡ self.old) }
         ensures out { OnErr result (out.new.items ≡ out.old.items) }
@@ -382,7 +432,8 @@ impl Outbox {
     fn take_waiting(&mut self, count: usize, out: &mut Vec<u8>) -> Result<usize, AllocError>
         requires { self.old.next ≡ self.old.shown }
         ensures taken { IfOk result (λ taken. taken ≡ length (take count self.old.shown.entries)) }
-        ensures bytes { OnOk result (out.new.items ≡ out.old.items ++ bytes_of_all (take count self.old.shown.entries)) }
+        ensures bytes { OnOk result
+            (out.new.items ≡ out.old.items ++ bytes_of_all (take count self.old.shown.entries)) }
         ensures ok { OnOk result (self.new ≡ on_both (without_first count) self.old) }
         ensures err { OnErr result (self.new ≡ self.old) }
         ensures out { OnErr result (out.new.items ≡ out.old.items) }
@@ -408,7 +459,8 @@ impl Outbox {
     /// entries took is given back.
     pub fn take_bytes(&mut self, count: usize, out: &mut Vec<u8>) -> Result<usize, AllocError>
         ensures taken { IfOk result (λ taken. taken ≡ length (take count self.old.shown.entries)) }
-        ensures bytes { OnOk result (out.new.items ≡ out.old.items ++ bytes_of_all (take count self.old.shown.entries)) }
+        ensures bytes { OnOk result
+            (out.new.items ≡ out.old.items ++ bytes_of_all (take count self.old.shown.entries)) }
         ensures ok { OnOk result (self.new ≡ on_shown (without_first count) self.old) }
         ensures err { OnErr result (self.new ≡ self.old) }
         ensures out { OnErr result (out.new.items ≡ out.old.items) }

@@ -45,13 +45,22 @@ abbrev pub with_changed : ℕ → (Subscription → Subscription) → List Subsc
 with_changed serial change [] = []
 with_changed serial change (sub ∷ subs) = if has_serial serial sub then change sub ∷ subs else sub ∷ with_changed serial change subs
 
--- one more message can be counted for the one of this serial
-abbrev pub CountFits : ℕ → List Subscription → Type 0
-CountFits serial subs = IfSome (find (has_serial serial) subs) (λ sub. sub.delivered + 1 < 2 ^ 64)
+-- so many messages more can be counted for the one of this serial
+abbrev pub CountsFit : ℕ → ℕ → List Subscription → Type 0
+CountsFit serial count subs =
+    IfSome (find (has_serial serial) subs) (λ sub. sub.delivered + count < 2 ^ 64)
 
--- and is
+-- and are
+abbrev pub with_more : ℕ → ℕ → List Subscription → List Subscription
+with_more serial count subs =
+    with_changed serial (λ sub. record sub { delivered = sub.delivered + count }) subs
+
+-- one more
+abbrev pub CountFits : ℕ → List Subscription → Type 0
+CountFits serial subs = CountsFit serial 1 subs
+
 abbrev pub with_one_more : ℕ → List Subscription → List Subscription
-with_one_more serial subs = with_changed serial (λ sub. record sub { delivered = sub.delivered + 1 }) subs
+with_one_more serial subs = with_more serial 1 subs
 
 abbrev pub with_max : ℕ → Option ℕ → List Subscription → List Subscription
 with_max serial max subs = with_changed serial (λ sub. record sub { max = max }) subs

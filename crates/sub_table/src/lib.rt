@@ -10,7 +10,7 @@
 ghost use Rattle.std.specs.Prelude.{◌≡◌, ◌<◌, ◌+◌, nat_le, [], ◌∷◌, ◌++◌, length, map, filter, position, IfOk, OnOk, OnErr, All};
 ghost use Rattle.std.specs.List.{find as find_in};
 ghost use Rattle.std.specs.Option.{option_copied};
-ghost use Rattle.sub_table.specs.Subscriptions.{total_cost, gets, is_of_another, has_serial, without_serial, serial_called, serials_of, CountFits, with_one_more, with_max, matching_of, is_room, room_left as left_of_room};
+ghost use Rattle.sub_table.specs.Subscriptions.{total_cost, gets, is_of_another, has_serial, without_serial, serial_called, serials_of, CountFits, CountsFit, with_more, with_one_more, with_max, matching_of, is_room, room_left as left_of_room};
 
 use std::alloc::{AllocError, Global};
 use subj::{ConnId, Key, Sid, Subject};
@@ -121,6 +121,11 @@ pub trait SubTable: Sized + Drop {
         requires { CountFits serial (contents self.old) }
         ensures { contents self.new ≡ with_one_more serial (contents self.old) };
 
+    /// Counts so many messages more that the one of this serial got. Takes no memory.
+    fn count_many(&mut self, serial: u64, count: u64)
+        requires { CountsFit serial count (contents self.old) }
+        ensures { contents self.new ≡ with_more serial count (contents self.old) };
+
     /// Notes how many messages the one of this serial is to get. Takes no memory.
     fn set_max(&mut self, serial: u64, max: Option<u64>)
         ensures { contents self.new ≡ with_max serial max (contents self.old) };
@@ -228,11 +233,15 @@ impl SubTable for ListTable {
         Ok(())
     }
 
-    #[tactic(auto, using(crate::proofs::Places::changed_none))]
     fn count(&mut self, serial: u64) {
+        self.count_many(serial, 1);
+    }
+
+    #[tactic(auto, using(crate::proofs::Places::changed_none))]
+    fn count_many(&mut self, serial: u64, count: u64) {
         if let Some(place) = place_of(&self.subs, serial) {
             let sub = &mut self.subs[place];
-            sub.delivered += 1;
+            sub.delivered += count;
         }
     }
 

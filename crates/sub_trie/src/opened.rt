@@ -4,7 +4,7 @@ ghost use Rattle.std.specs.Prelude.{◌≡◌, ◌<◌, ◌+◌, nat_le, true, [
 ghost use Rattle.std.specs.List.{find as find_in};
 ghost use Rattle.std.specs.Option.{option_copied};
 ghost use Rattle.std.proofs.Props.{props};
-ghost use Rattle.sub_table.specs.Subscriptions.{total_cost, gets, has_serial, without_serial, CountFits, with_one_more, with_max, matching_of, is_room};
+ghost use Rattle.sub_table.specs.Subscriptions.{total_cost, gets, has_serial, without_serial, CountsFit, with_more, with_max, matching_of, is_room};
 ghost use Rattle.pattern_trie.specs.Held.{Holds};
 ghost use Rattle.pattern_trie.specs.Starts.{node_count};
 ghost use Rattle.sub_trie.specs.Rising.{is_keyed, is_rising, held_of, rows, subs_in_order};
@@ -169,13 +169,13 @@ impl Opened {
         }
     }
 
-    /// Counts one more message that the one of this serial got. Takes no memory.
-    pub(crate) fn count(&mut self, serial: u64)
-        requires { CountFits serial (subs_in_order self.old.subs) }
-        ensures { subs_in_order self.new.subs ≡ with_one_more serial (subs_in_order self.old.subs) }
+    /// Counts so many messages more that the one of this serial got. Takes no memory.
+    pub(crate) fn count_many(&mut self, serial: u64, count: u64)
+        requires { CountsFit serial count (subs_in_order self.old.subs) }
+        ensures { subs_in_order self.new.subs ≡ with_more serial count (subs_in_order self.old.subs) }
     {
         if let Some(sub) = self.subs.get_mut(&serial) {
-            sub.delivered += 1;
+            sub.delivered += count;
         }
     }
 

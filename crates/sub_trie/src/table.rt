@@ -140,7 +140,11 @@ impl SubTable for TrieTable {
     }
 
     fn count(&mut self, serial: u64) {
-        self.opened.count(serial);
+        self.count_many(serial, 1);
+    }
+
+    fn count_many(&mut self, serial: u64, count: u64) {
+        self.opened.count_many(serial, count);
     }
 
     fn set_max(&mut self, serial: u64, max: Option<u64>) {

@@ -12,10 +12,18 @@ left : (at : ℕ) (text : List ℕ) → take (length text - at) (drop at text) �
 left at text = let len = length-drop at text in take_all (length text - at) (drop at text) (omega arith)
 
 pub slice_bounds-copy_of-count : goal.slice_bounds-copy_of-count
-slice_bounds-copy_of-count c = let parts = copied_parts c.args.kept.now.items c.loop-place.place in let at = c.loop-place.invariant.at in let text = c.requires.text in omega arith
+slice_bounds-copy_of-count c =
+    let parts = copied_parts c.args.kept.now.items c.loop-place.place in
+    let at = c.loop-place.invariant.at in
+    let text = c.requires.text in
+    omega arith
 
 pub slice_bounds-copy_of-start : goal.slice_bounds-copy_of-start
-slice_bounds-copy_of-start c = let parts = copied_parts c.args.kept.now.items c.loop-place.place in let at = c.loop-place.invariant.at in let text = c.requires.text in omega arith
+slice_bounds-copy_of-start c =
+    let parts = copied_parts c.args.kept.now.items c.loop-place.place in
+    let at = c.loop-place.invariant.at in
+    let text = c.requires.text in
+    omega arith
 
 pub copy_of-requires-clause-text : goal.copy_of-requires-clause-text
 copy_of-requires-clause-text c =
@@ -26,7 +34,8 @@ copy_of-requires-clause-text c =
     let k = kept_at ks i in
     let lt : i < length ks = omega (arith, c.requires.there, c.loop-place-test.true) in
     let within = copied_within ks i (Copied Reply 0) lt in
-    let len : length (take (length text - at) (drop at text)) ≡ length text - at = ap length (left at text) ∙ length-drop at text in
+    let len : length (take (length text - at) (drop at text)) ≡ length text - at =
+    ap length (left at text) ∙ length-drop at text in
     let here = c.loop-place.invariant.at in
     let fits = c.requires.text in
     omega arith
@@ -53,9 +62,14 @@ loop-place-preserved c =
     let lt : i < length ks = omega (arith, c.requires.there, c.loop-place-test.true) in
     let here = c.loop-place.invariant.at in
     let next = copied_next ks i (Copied Reply 0) lt in
-    let seen_here : written_at k (take (length text - at) (drop at text)) ≡ written_at k (drop at text) = ap (written_at k) (left at text) in
+    let seen_here : written_at k (take (length text - at) (drop at text)) ≡ written_at k (drop at text) =
+    ap (written_at k) (left at text) in
     let len : c.in_ok-copy.copied ≡ copied_len k = c.in_ok-copy.ensures.1 in
     record {
       at = omega arith;
-      copies = c.in_ok-push.ensures.items ∙ ap (λ l. l ++ c.in_ok-copy.copy ∷ []) c.loop-place.invariant.copies ∙ ap (λ (e : Written). take i (written_in ks text) ++ e ∷ []) (c.in_ok-copy.ensures.0 ∙ seen_here) ∙ sym (take_next ks text i at (Copied Reply 0) lt here);
+      copies =
+          c.in_ok-push.ensures.items
+          ∙ ap (λ l. l ++ c.in_ok-copy.copy ∷ []) c.loop-place.invariant.copies
+          ∙ ap (λ (e : Written). take i (written_in ks text) ++ e ∷ []) (c.in_ok-copy.ensures.0 ∙ seen_here)
+          ∙ sym (take_next ks text i at (Copied Reply 0) lt here);
     }

@@ -10,7 +10,8 @@ loop-dropped-preserved c =
     let n = c.loop-dropped.dropped in
     let kept = c.loop-dropped.invariant in
     let rest = c.drop_first.ensures.rest in
-    let same : size_of (take 1 c.loop-dropped.self.entries) ≡ size_of (take 1 (drop n entries)) = ap (λ (l : List Written). size_of (take 1 l)) kept.entries in
+    let same : size_of (take 1 c.loop-dropped.self.entries) ≡ size_of (take 1 (drop n entries)) =
+    ap (λ (l : List Written). size_of (take 1 l)) kept.entries in
     let more = size_of_more entries n in
     record {
       entries = rest ∙ ap (drop 1) kept.entries ∙ drop-drop 1 n entries;

@@ -4,7 +4,10 @@ use Rattle.outbox.specs.Views.{Written}
 use Rattle.outbox.proofs.entry_queue.EntryQueue.truncate.Goals as goal
 
 -- one entry less of the first ones
-one_less : (xs ys zs : List Written) → ys ≡ take (length ys) xs → zs ≡ take (length ys - 1) ys → (zs ≡ take (length zs) xs) × (length zs ≡ length ys - 1)
+one_less : (xs ys zs : List Written)
+    → ys ≡ take (length ys) xs
+    → zs ≡ take (length ys - 1) ys
+    → (zs ≡ take (length zs) xs) × (length zs ≡ length ys - 1)
 one_less xs ys zs first less =
     let n = length ys in
     let len : length zs ≡ n - 1 = ap length less ∙ length-take-le (n - 1) ys (omega arith) in
@@ -18,12 +21,17 @@ loop-dropped-init c = record {
 }
 
 pub drop_last-requires : goal.drop_last-requires
-drop_last-requires c = let left = c.loop-dropped.invariant.left in let all = c.len-dropped-end.ensures in let test = c.loop-dropped-test.true in omega arith
+drop_last-requires c =
+    let left = c.loop-dropped.invariant.left in
+    let all = c.len-dropped-end.ensures in
+    let test = c.loop-dropped-test.true in
+    omega arith
 
 pub loop-dropped-preserved : goal.loop-dropped-preserved
 loop-dropped-preserved c =
     let kept = c.loop-dropped.invariant in
-    let less = one_less c.args.self.now.entries c.loop-dropped.self.entries c.drop_last.new.self.entries kept.entries c.drop_last.ensures.entries in
+    let less = one_less c.args.self.now.entries c.loop-dropped.self.entries c.drop_last.new.self.entries kept.entries
+    c.drop_last.ensures.entries in
     let left = kept.left in
     let all = c.len-dropped-end.ensures in
     let test = c.loop-dropped-test.true in
@@ -31,7 +39,8 @@ loop-dropped-preserved c =
     record {
       entries = less.0;
       left = omega arith;
-      places = λ count small was. c.drop_last.ensures.places count small (kept.places count (omega (arith, small, len)) was);
+      places =
+          λ count small was. c.drop_last.ensures.places count small (kept.places count (omega (arith, small, len)) was);
     }
 
 pub returns-clause-entries : goal.returns-clause-entries

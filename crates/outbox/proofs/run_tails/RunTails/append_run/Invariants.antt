@@ -1,0 +1,19 @@
+use Rattle.std.proofs.Common.{◌≡◌, ℕ, ◌+◌, ◌*◌, ◌≤◌, List, ◌++◌, length, drop, vec_len, vec_capacity}
+use Rattle.outbox.specs.Tails.{tails_in, marked}
+use Rattle.outbox.specs.Views.{run_text}
+use Rattle.outbox.specs.declared.run_tails.TailMark.{TailMark}
+use Rattle.outbox.proofs.run_tails.RunTails.append_run.Given as goal
+
+-- the marks that are left are of the bytes that are left, there is room for their messages, and with these the text
+-- comes to the whole
+pub record IsGoingOn (marks : List TailMark) (text head out all : List ℕ) (start len capacity : ℕ) : Type 0 where
+  pub left : start + marked marks ≡ length text
+  pub room : len + (length head * length marks + marked marks) ≤ capacity
+  pub put : out ++ run_text head (tails_in marks (drop start text)) ≡ all
+
+abbrev pub invariant-loop-mark : goal.invariant-loop-mark
+invariant-loop-mark l =
+    let marks = l.self-inside.marks.items in
+    let text = l.self-inside.text.items in
+    IsGoingOn (drop l.mark-index marks) text l.head l.out.items
+    (l.fn.out.items ++ run_text l.head (tails_in marks text)) l.start (vec_len l.out) (vec_capacity l.out)
