@@ -4,7 +4,7 @@ use Rattle.std.specs.Prelude.{Option, filter}
 use Rattle.std.specs.List.{AllByRecursion}
 use Rattle.std.proofs.lemmas.List.Elements.{recursion_from_All, All-from_recursion}
 use Rattle.sub_table.specs.declared.Subscription.{Subscription}
-use Rattle.sub_table.specs.Subscriptions.{has_serial, without_serial, is_of_another, with_changed, with_one_more, with_max}
+use Rattle.sub_table.specs.Subscriptions.{has_serial, without_serial, is_of_another, with_changed, with_more, with_max}
 
 below_left : (last n : ℕ) (subs : List Subscription) → AllByRecursion (λ other. other.serial ≤ last) subs → AllByRecursion (λ other. other.serial ≤ last) (without_serial n subs)
 below_left last n [] below = below
@@ -37,10 +37,11 @@ below_without last n subs below = All-from_recursion (λ (other : Subscription).
 pub below_filter : (last conn : ℕ) (subs : List Subscription) → All (λ other. other.serial ≤ last) subs → All (λ other. other.serial ≤ last) (filter (is_of_another conn) subs)
 below_filter last conn subs below = All-from_recursion (λ (other : Subscription). other.serial ≤ last) (filter (is_of_another conn) subs) (below_kept last conn subs (recursion_from_All (λ (other : Subscription). other.serial ≤ last) subs below))
 
-pub below_counted : (last n : ℕ) (subs : List Subscription) → All (λ other. other.serial ≤ last) subs → All (λ other. other.serial ≤ last) (with_one_more n subs)
-below_counted last n subs below =
-    All-from_recursion (λ (other : Subscription). other.serial ≤ last) (with_one_more n subs)
-    (below_noted last n (λ sub. record sub { delivered = sub.delivered + 1 }) subs (λ s at. at) (recursion_from_All (λ (other : Subscription). other.serial ≤ last) subs below))
+pub below_counted : (last n count : ℕ) (subs : List Subscription) → All (λ other. other.serial ≤ last) subs
+    → All (λ other. other.serial ≤ last) (with_more n count subs)
+below_counted last n count subs below =
+    All-from_recursion (λ (other : Subscription). other.serial ≤ last) (with_more n count subs)
+    (below_noted last n (λ sub. record sub { delivered = sub.delivered + count }) subs (λ s at. at) (recursion_from_All (λ (other : Subscription). other.serial ≤ last) subs below))
 
 pub below_max : (last n : ℕ) (max : Option ℕ) (subs : List Subscription) → All (λ other. other.serial ≤ last) subs → All (λ other. other.serial ≤ last) (with_max n max subs)
 below_max last n max subs below =

@@ -4,7 +4,7 @@ use crate::guarded::{Outboxes, Settled, Staged};
 use golden::{
     Words, bytes_of, life_of, payload_of, push_shown, put, queue_of, tell, tell_bytes, tell_whether,
 };
-use outbox::{Entry, Mode, Outbox, Tag};
+use outbox::{Entry, Mode, Outbox, RunTails, Tag};
 use std::alloc::Global;
 use std::fmt::Write;
 use subj::{MAX_PAYLOAD, OUTBOX_BYTES, PubId, SubId};
@@ -181,6 +181,57 @@ fn put_parts(answer: &mut String, settled: &mut Settled, alloc: Global, word: &s
     room_told(answer, settled.put_parts(id, SUB, &payload).ok()?)
 }
 
+/// Puts the tail of the next publication that n1 made in its fourth incarnation.
+fn push_tail(tails: &mut RunTails, alloc: Global, word: &str) -> Option<()> {
+    let number = (tails.len() as u64).saturating_add(1);
+    let tail = bytes_of(alloc, word).ok()?;
+    tails.push(publication_of(4, number)?, &tail).ok()
+}
+
+/// Puts these tails, in the memory of one that is dropped.
+fn push_tails(tails: &mut RunTails, alloc: Global, words: &str) -> Option<()> {
+    push_tail(tails, alloc, "dropped")?;
+    tails.clear();
+    for word in words.split('|') {
+        push_tail(tails, alloc, word)?;
+    }
+    Some(())
+}
+
+/// The tails of a run: all arguments behind its head.
+fn tails_of(alloc: Global, words: &Words<'_>) -> Option<RunTails> {
+    let mut tails = RunTails::new(alloc);
+    if let Some((_, words)) = words.text.split_once('|') {
+        push_tails(&mut tails, alloc, words)?;
+    }
+    Some(tails)
+}
+
+/// Puts a run by its head and its tails.
+fn put_run(
+    answer: &mut String,
+    outboxes: &mut Outboxes,
+    alloc: Global,
+    words: &Words<'_>,
+) -> Option<()> {
+    let tails = tails_of(alloc, words)?;
+    let head = bytes_of(alloc, words.at(0)).ok()?;
+    room_told(answer, outboxes.put_run(SUB, &head, &tails).ok()?)
+}
+
+/// Tells whether there is room for a run, and whether it has messages.
+fn room_for_run(
+    answer: &mut String,
+    outbox: &Outbox,
+    alloc: Global,
+    words: &Words<'_>,
+) -> Option<()> {
+    let tails = tails_of(alloc, words)?;
+    let head = bytes_of(alloc, words.at(0)).ok()?;
+    tell_whether(answer, outbox.room_for_run(SUB, &head, &tails))?;
+    tell(answer, if tails.is_empty() { ", empty" } else { "" })
+}
+
 /// Takes the bytes of so many entries behind those that stand there.
 fn take_bytes(
     answer: &mut String,
@@ -217,6 +268,21 @@ fn take_entries(
     taken(answer, alloc, &entries, is_last)
 }
 
+/// Tells what each of the entries is.
+fn tags_told(answer: &mut String, entries: &[Entry]) -> Option<()> {
+    for entry in entries {
+        tag_told(answer, entry.tag())?;
+        tell(answer, ";")?;
+    }
+    Some(())
+}
+
+/// Takes so many entries. Tells what each is.
+fn take_tags(answer: &mut String, settled: &mut Settled, count: usize) -> Option<()> {
+    let entries = settled.take(count).ok()?;
+    tags_told(answer, &entries)
+}
+
 /// Makes a call where nothing is staged.
 fn settled_call(
     answer: &mut String,
@@ -230,6 +296,7 @@ fn settled_call(
         "shut" => shut_outbox(answer, settled, alloc, words.at(0)),
         "take" => take_entries(answer, settled, alloc, words.number(0) as usize, false),
         "take_last" => take_entries(answer, settled, alloc, usize::MAX, true),
+        "take_tags" => take_tags(answer, settled, words.number(0) as usize),
         "take_bytes" => take_bytes(answer, settled, alloc, words),
         _ => None,
     }
@@ -259,6 +326,8 @@ fn outboxes_call(
     match call {
         "put" => put_entry(answer, outboxes, reply_of(alloc, words.at(0))),
         "put_message" => put_entry(answer, outboxes, message_in(alloc, words)),
+        "put_run" => put_run(answer, outboxes, alloc, words),
+        "room_for_run" => room_for_run(answer, outboxes.outbox(), alloc, words),
         "room" => tell_whether(answer, outboxes.outbox().room(words.number(0) as usize)),
         "room_for" => tell_whether(answer, outboxes.outbox().room_for(words.at(0).as_bytes())),
         "seen" => seen(answer, outboxes.outbox()),

@@ -7,7 +7,7 @@ ghost use Rattle.pick.specs.Pick.{total_weight};
 
 use bytes::Bytes;
 use claim_race::{PlainRace, Race};
-use outbox::{Entry, LAST_LINE_TEXT, Mode, Outbox};
+use outbox::{Entry, LAST_LINE_TEXT, Mode, Outbox, RunTails};
 use pick::choose;
 use std::alloc::{AllocError, Global};
 use sub_table::{SubTable, Subscription};
@@ -15,6 +15,20 @@ use subj::{
     Busy, ConnId, MAX_COUNTER, MAX_PAYLOAD, MAX_QUEUE_NAMES, MAX_SHARDS, NodeId, PubId, SubId,
     Subject, Turn,
 };
+
+/// Stages a run. Gives whether there was room.
+fn stage_run(
+    outbox: &mut Outbox,
+    sub: SubId,
+    head: &[u8],
+    tails: &RunTails,
+) -> Result<bool, AllocError> {
+    if !outbox.room_for_run(sub, head, tails) {
+        return Ok(false);
+    }
+    outbox.stage_run(sub, head, tails)?;
+    Ok(true)
+}
 
 /// An outbox in which nothing is staged.
 #[derive(Drop)]
@@ -55,6 +69,18 @@ impl Settled {
         Ok(true)
     }
 
+    /// Puts a run. Gives whether there was room.
+    pub fn put_run(
+        &mut self,
+        sub: SubId,
+        head: &[u8],
+        tails: &RunTails,
+    ) -> Result<bool, AllocError> {
+        let has_room = stage_run(&mut self.outbox, sub, head, tails)?;
+        self.outbox.commit();
+        Ok(has_room)
+    }
+
     /// Puts the last line. Gives whether it is short enough, and the first one.
     pub fn shut(&mut self, line: &[u8]) -> bool {
         self.outbox.shut(line)
@@ -87,6 +113,16 @@ impl Staged {
         Ok(true)
     }
 
+    /// Stages a run. Gives whether there was room.
+    pub fn stage_run(
+        &mut self,
+        sub: SubId,
+        head: &[u8],
+        tails: &RunTails,
+    ) -> Result<bool, AllocError> {
+        stage_run(&mut self.outbox, sub, head, tails)
+    }
+
     /// Stages the last line. Gives whether it is short enough, and the first one.
     pub fn stage_last(&mut self, line: &[u8]) -> Result<bool, AllocError> {
         if line.len() > LAST_LINE_TEXT || self.outbox.is_closing() {
@@ -117,6 +153,19 @@ impl Outboxes {
         match self {
             Outboxes::Settled(settled) => settled.put(entry),
             Outboxes::Staged(staged) => staged.stage(entry),
+        }
+    }
+
+    /// Puts a run, or stages it. Gives whether there was room.
+    pub fn put_run(
+        &mut self,
+        sub: SubId,
+        head: &[u8],
+        tails: &RunTails,
+    ) -> Result<bool, AllocError> {
+        match self {
+            Outboxes::Settled(settled) => settled.put_run(sub, head, tails),
+            Outboxes::Staged(staged) => staged.stage_run(sub, head, tails),
         }
     }
 
@@ -288,6 +337,18 @@ impl<T: SubTable> Opened<T> {
             return false;
         }
         self.table.count(serial);
+        true
+    }
+
+    /// Counts so many messages more that the one of this serial got. Gives whether there is one whose count may rise so far.
+    pub fn count_many(&mut self, serial: u64, count: u64) -> bool {
+        let Some(sub) = self.table.get(serial) else {
+            return false;
+        };
+        if sub.delivered > u64::MAX - count {
+            return false;
+        }
+        self.table.count_many(serial, count);
         true
     }
 

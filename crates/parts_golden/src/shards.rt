@@ -307,6 +307,9 @@ fn turn_of(word: &str, next: u64) -> Option<Turn> {
     }
 }
 
+/// The most jobs of a run.
+const MOST_JOBS: usize = 9;
+
 /// The payload that a word is, or `hello` where it is empty.
 fn payload_in(word: &str) -> &str {
     if word.is_empty() { "hello" } else { word }
@@ -362,6 +365,44 @@ fn end(answer: &mut String, stand: &mut Stand, told: &str) -> Option<()> {
 fn work(answer: &mut String, stand: &mut Stand, alloc: Global, words: &Words<'_>) -> Option<()> {
     begin(answer, stand, alloc, words)?;
     end(answer, stand, "")
+}
+
+/// A job on foo in this turn, of no publisher, or of the one before a colon, for whom there is no echo. The rest of the word is its
+/// payload.
+fn job_in_run(alloc: Global, word: &str, turn: u64) -> Option<Job> {
+    let (publisher, payload) = word.split_once(':').unwrap_or(("", word));
+    let turn = Turn::new(turn)?;
+    let is_published = !publisher.is_empty();
+    Some(Job {
+        turn,
+        id: publication_of(1, turn.get())?,
+        message: message_with(alloc, "foo", "", "", payload)?,
+        publisher: is_published.then_some(ConnId::new(number(publisher))),
+        echo: !is_published,
+        queues: queues_of(alloc, "")??,
+    })
+}
+
+/// A job of each word, in turns from this one on.
+fn run_of(alloc: Global, words: &Words<'_>, next: u64) -> Option<Vec<Job>> {
+    let mut jobs = Vec::new(alloc);
+    for place in 0..MOST_JOBS {
+        let word = words.at(place);
+        if word.is_empty() {
+            return Some(jobs);
+        }
+        let turn = next.saturating_add(place as u64);
+        jobs.push(job_in_run(alloc, word, turn)?).ok()?;
+    }
+    Some(jobs)
+}
+
+/// Delivers as many of some jobs at once as it can. Tells how many.
+fn deliver(answer: &mut String, stand: &mut Stand, alloc: Global, words: &Words<'_>) -> Option<()> {
+    let jobs = run_of(alloc, words, stand.turn)?;
+    let count = stand.shard.deliver_run(&jobs).ok()? as u64;
+    stand.turn = stand.turn.saturating_add(count);
+    tell_number(answer, "at once ", count)
 }
 
 /// Tells whether there is a candidate for the queue name at an index.
@@ -470,6 +511,7 @@ fn stand_call(
         "begin" => begin(answer, stand, alloc, words),
         "end" => end(answer, stand, "ok"),
         "work" => work(answer, stand, alloc, words),
+        "deliver" => deliver(answer, stand, alloc, words),
         "dirty_conns" => dirty_conns(answer, stand),
         _ => lone_call(answer, &mut stand.shard, alloc, call, words),
     }

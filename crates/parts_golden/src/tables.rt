@@ -150,6 +150,7 @@ fn opened_call<T: SubTable>(
         "open" => open(answer, opened, alloc, words),
         "remove" => remove(answer, opened, words.number(0)),
         "count" => tell_whether(answer, opened.count(words.number(0))),
+        "count_many" => tell_whether(answer, opened.count_many(words.number(0), words.number(1))),
         "close" | "set_max" => {
             change(opened, call, words);
             tell(answer, "ok")

@@ -2,7 +2,7 @@
 use Rattle.std.specs.Prelude.{◌≡◌, ◌≢◌, ◌⊎◌, ◌↔◌, ℕ, ◌+◌, ◌-◌, ◌%◌, ◌<◌, ◌≤◌, true, false, List, ◌++◌, length, filter, map, Option, Some, None, option_map, Result, if◌then◌else◌}
 use Rattle.list_laws.specs.Lists.{In, Each, Pairs}
 use Rattle.client_frames.specs.Frames.{reply_line}
-use Rattle.outbox.specs.Views.{Written, Backlog}
+use Rattle.outbox.specs.Views.{Written, with_entries}
 use Rattle.sub_table.specs.Subscriptions.{has_serial, is_called}
 use Rattle.sub_table.specs.declared.Subscription.{Subscription}
 use Rattle.subj.specs.declared.identities.SubId.{SubId}
@@ -100,9 +100,6 @@ ClosesByCause = (s : State) (e : Event) → AreHeld s → shard_refusal s e ≡ 
 -- ---- and why a connection goes or is shut: at its Detach and its Shut, and for want of room
 
 -- what waits for a connection, and behind it the messages that a Begin gives to it
-abbrev pub with_entries : List Written → Backlog → Backlog
-with_entries entries backlog = record backlog { entries = backlog.entries ++ entries }
-
 abbrev pub with_given : State → Job → List Subscription → ℕ → Option Client
 with_given s job given conn = option_map (with_outbox (with_entries (entries_for conn (map (owed_placed s.shard s.clients job None) given)))) (client_at conn s.clients)
 

@@ -50,3 +50,15 @@ pub mod Options
 pub mod Room
 -- for which connections something was put
 pub mod Dirty
+-- a run of jobs worked one after the other, and delivered at once; when it can be
+pub mod Runs
+-- a run delivered by receivers: connection after connection, and subscription after subscription
+pub mod RunReceivers
+-- jobs that are alike: whoever gets one of them gets them all
+pub mod RunAlike
+-- a run delivered to receivers that are noted
+pub mod RunNoted
+-- a closed example of a run
+pub mod RunExample
+-- how the code delivers a run
+pub mod RunSteps

@@ -5,14 +5,18 @@ ghost use Rattle.sub_table.specs.Subscriptions.{is_room, matching_of};
 ghost use Rattle.shard_core.specs.Boxes.{room_left, AreRising, AreConns, IsSettled, IsSettledAt, on_both, on_shown, client_in_view, shown_backlog, next_backlog, number_of, HasRoomAt, IsBoxStaged, IsOpenAt, IsSeated, IsSeatOf, IsStanding, AreAlike, form_length, standing_of};
 ghost use Rattle.std.specs.Prelude.{map, filter, not, nat_eq, nat_le, ◌&&◌, ◌≡◌, ◌==◌, ◌≤◌, ◌+◌, ◌-◌, ◌<◌, ◌^◌, ◌++◌, ◌∷◌, [], true, false, position, take, length, All, IsTrue, IfOk, IfSome, OnOk, OnErr, None, Some};
 ghost use Rattle.std.specs.Option.{option_map, option_copied};
-ghost use Rattle.outbox.specs.Views.{has_room, with_entry, with_last, without_first, size_of, reply_entry, message_entry, spelt_entry, bytes_of_all};
+ghost use Rattle.outbox.specs.Views.{has_room, with_entry, with_last, without_first, size_of, reply_entry, message_entry, message_run, spelt_entry, with_entries, bytes_of_all};
 ghost use Rattle.shard_core.specs.Shards.{is_open as opened, is_known as known, client_at, clients_with_change, clients_with_headers, takes_headers as headers_taken, without_client, fits, fits_len, waits_for};
 ghost use Rattle.shard_core.specs.Dirty.{AreKept, AreTold, AreToldBut, IsToldAt};
+ghost use Rattle.shard_core.specs.Opened.{AreApart};
+ghost use Rattle.shard_core.specs.RunReceivers.{clients_with_entries};
+ghost use Rattle.shard_core.specs.Runs.{numbers_of};
+ghost use Rattle.shard_core.specs.RunSteps.{TakesRun, TakesRunAt};
 ghost use Rattle.shard_core.specs.ShardSteps.{new_client};
 
 use crate::dirty_conns::DirtyConns;
 use bytes::Bytes;
-use outbox::{Entry, LAST_LINE_TEXT, Mode, Outbox};
+use outbox::{Entry, LAST_LINE_TEXT, Mode, Outbox, RunTails};
 use std::alloc::{AllocError, Global};
 use std::marker::Model;
 use sub_table::{Room, SubTable};
@@ -319,6 +323,33 @@ fn stage_message_at(
     Ok(())
 }
 
+/// Whether the connection at the place takes the messages of a run: it has room for all of them, and nothing is staged for it.
+fn takes_run_at(conns: &Vec<Conn>, place: usize, sub: SubId, head: &[u8], tails: &RunTails) -> bool
+    requires within { place < length conns.now.items }
+    ensures { result ≡ true → TakesRunAt place (message_run sub head.now tails.now) conns.now.items }
+{
+    let outbox = &conns[place].outbox;
+    !outbox.has_staged() && outbox.room_for_run(sub, head, tails)
+}
+
+/// Stages the messages of a run for the connection at the place, which takes them.
+fn stage_run_at(
+    conns: &mut Vec<Conn>,
+    place: usize,
+    sub: SubId,
+    head: &[u8],
+    tails: &RunTails,
+) -> Result<(), AllocError>
+    requires within { place < length conns.old.items }
+    requires takes { TakesRunAt place (message_run sub head.now tails.now) conns.old.items }
+    ensures ok { OnOk result (IsBoxStaged place (with_entries (message_run sub head.now tails.now)) conns.old.items conns.new.items) }
+    ensures err { OnErr result (IsBoxStaged place (λ backlog. backlog) conns.old.items conns.new.items) }
+{
+    let conn = &mut conns[place];
+    conn.outbox.stage_run(sub, head, tails)?;
+    Ok(())
+}
+
 /// Stages the last line of the connection at the place, which is open.
 fn stage_last_at(conns: &mut Vec<Conn>, place: usize, line: &[u8]) -> Result<(), AllocError>
     requires within { place < length conns.old.items }
@@ -529,6 +560,36 @@ impl Conns {
         Ok(())
     }
 
+    /// Puts the messages of a run for one subscription, each with this head, unseen, where the connection takes them: it is there and
+    /// not shut, has room for all of them, and nothing is staged for it. Tells whether it does.
+    pub fn stage_run(
+        &mut self,
+        conn: ConnId,
+        sub: SubId,
+        head: &[u8],
+        tails: &RunTails,
+    ) -> Result<bool, AllocError>
+        ensures shown { self.new.shown ≡ self.old.shown }
+        ensures takes { IfOk result (λ put.
+            put ≡ true
+            → TakesRun (message_run sub head.now tails.now) conn self.old.shown self.old.next) }
+        ensures put { IfOk result (λ put.
+            put ≡ true
+            → self.new.next
+            ≡ clients_with_entries (message_run sub head.now tails.now) conn self.old.next) }
+    {
+        let Some(seat) = self.seat(conn) else {
+            return Ok(false);
+        };
+        let place = seat.place;
+        if !takes_run_at(&self.conns, place, sub, head, tails) {
+            return Ok(false);
+        }
+        note_staged(&mut self.places, seat)?;
+        stage_run_at(&mut self.conns, place, sub, head, tails)?;
+        Ok(true)
+    }
+
     /// Puts the last line of a connection that is open, given without its CR LF, unseen. Want of memory
     /// leaves all as it was.
     pub fn stage_last(&mut self, seat: Seat, line: &[u8]) -> Result<(), AllocError>
@@ -543,6 +604,13 @@ impl Conns {
         note_staged(&mut self.places, seat)?;
         stage_last_at(&mut self.conns, place, line)?;
         Ok(())
+    }
+
+    /// No two connections have one number. Does nothing: it is a law of what is there.
+    pub fn numbers_are_apart(&self)
+        ensures { AreApart (numbers_of self.now.shown) }
+    {
+        let _ = &self.conns;
     }
 
     /// Whether anything may be staged: where not, nothing is.

@@ -453,7 +453,7 @@ impl DeliveryBuffer {
 }
 
 /// Messages with more bytes than these behind their lines are not spelt by parts: their payloads are shared, or their bytes are the cost.
-const SHORT_BODY: usize = 2_048;
+pub const SHORT_BODY: usize = 2_048;
 
 /// The whole walk of a job, unseen: over the receivers of its subject where they are noted, its messages are short, and no copies are
 /// asked for.

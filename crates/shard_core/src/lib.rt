@@ -12,6 +12,9 @@
 //! In reading order: `shard` has the calls, `calls` their answers, and `shard/refusals` why they are refused; `connections` keeps the
 //! outboxes, `openings` the open subscriptions; `delivery_buffer` is what Begin places, by
 //! `receiver_walk` where who receives the subject is noted (`receivers`); `queue_claim` with `members` is the choice of one member.
+//!
+//! A run of jobs of one subject goes to the same receivers, so [`Shard::deliver_run`] (`shard/runs`) delivers it at once, by
+//! `run_delivery`; `run_laws` says that this leaves what the jobs leave, worked one after the other.
 #![tactic(auto)]
 
 mod calls;
@@ -28,6 +31,8 @@ mod queue_claim;
 mod receiver;
 mod receiver_walk;
 mod receivers;
+mod run_delivery;
+mod run_laws;
 mod shard;
 
 pub use calls::{BeginFault, Begun, Candidate, Closed, Placed, Subscribed};
@@ -45,4 +50,8 @@ pub use laws::{
 };
 pub use openings::Openings;
 pub use queue_claim::claims_are_whole;
+pub use run_laws::{
+    alike_by_fields, alike_go_to_all, counts_go_on, entries_go_on, run_by_hand, runs_are_worked,
+    runs_count_by_receivers, runs_go_by_conns, runs_go_by_receivers, runs_go_on, runs_go_to_noted,
+};
 pub use shard::Shard;

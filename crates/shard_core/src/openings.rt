@@ -1,10 +1,13 @@
 //! Open subscriptions, and the openings and closings that the hub was not told of yet.
 
-ghost use Rattle.std.specs.Prelude.{◌≡◌, ◌+◌, ◌≤◌, [], ◌∷◌, filter, length, vec_capacity, IfOk, IfSome, OnOk, OnErr};
+ghost use Rattle.std.specs.Prelude.{◌≡◌, ◌+◌, ◌≤◌, [], ◌∷◌, filter, length, map, vec_capacity, IfOk, IfSome, OnOk, OnErr};
 ghost use Rattle.std.specs.Option.{option_copied};
+ghost use Rattle.list_laws.specs.Lists.{Each};
 ghost use Rattle.sub_table.specs.Subscriptions.{gets, with_max};
 ghost use Rattle.shard_core.specs.Members.{found_at as at_mark, found_of, is_in_group_of};
 ghost use Rattle.shard_core.specs.Received.{receivers_of};
+ghost use Rattle.shard_core.specs.RunReceivers.{sub_with_more};
+ghost use Rattle.shard_core.specs.RunSteps.{CanCountMore, subs_by_serials};
 ghost use Rattle.shard_core.specs.Tallies.{lent_subs};
 ghost use Rattle.shard_core.specs.Closings.{left_of};
 ghost use Rattle.shard_core.specs.Opened.{AreRising, AreApart, IsNext, CanCount, CanCountEach, none_opened, with_opening, with_counts, with_closings, all_told};
@@ -114,6 +117,25 @@ impl<T: SubTable> Openings<T> {
     {
         for serial in given {
             self.count(*serial);
+        }
+    }
+
+    /// Counts so many messages more that the one of this serial got, where it is open. Takes no memory.
+    pub fn count_many(&mut self, serial: u64, count: u64)
+        requires { CanCountMore count serial self.old.subs }
+        ensures { self.new ≡ record self.old { subs = map (sub_with_more serial count) self.old.subs } }
+    {
+        self.table.count_many(serial, count);
+    }
+
+    /// Counts so many messages more that each of these serials got, where it is open. Takes no memory.
+    pub fn count_run(&mut self, given: &[u64], count: u64)
+        requires apart { AreApart given.now }
+        requires room { Each (λ serial. CanCountMore count serial self.old.subs) given.now }
+        ensures { self.new ≡ record self.old { subs = subs_by_serials count given.now self.old.subs } }
+    {
+        for serial in given {
+            self.count_many(*serial, count);
         }
     }
 

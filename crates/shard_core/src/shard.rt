@@ -19,6 +19,7 @@ ghost use Rattle.shard_core.specs.ShardEvents.{Attach, Subscribe, Unsubscribe, R
 ghost use Rattle.shard_core.specs.ShardSteps.{shard_refusal, sub_called as call, ended_now, IsHanded};
 
 mod refusals;
+mod runs;
 
 use crate::calls::{BeginFault, Begun, Candidate, Closed, Subscribed};
 use crate::connections::Conns;
@@ -27,6 +28,7 @@ use crate::dirty_conns::DirtyConns;
 use crate::faults::ShardFault;
 use crate::openings::Openings;
 use crate::queue_claim::{QueueClaim, choose};
+use crate::run_delivery::RunBuffer;
 use client_frames::{ErrText, MessageTails, ReplyFrame, reply_line};
 use outbox::{Entry, LAST_LINE_TEXT};
 use std::alloc::{AllocError, Global};
@@ -202,6 +204,10 @@ pub struct Shard<T: SubTable> {
     buffer: DeliveryBuffer,
     /// The memory of what a walk's messages have in common.
     tails: MessageTails,
+    /// The memory of a run.
+    run: RunBuffer,
+    /// Up to this turn no run is tried: the last one could not be delivered at once.
+    tried: Turn,
     /// For which connections something was put.
     dirty_conns: DirtyConns,
 }
@@ -267,6 +273,8 @@ impl<T: SubTable> Shard<T> {
             chosen: None,
             buffer: DeliveryBuffer::new(alloc, shard),
             tails: MessageTails::new(alloc),
+            run: RunBuffer::new(alloc),
+            tried: Turn::zero(),
             dirty_conns: DirtyConns::new(alloc),
         })
     }

@@ -213,10 +213,10 @@ impl<T: SubTable, R: Race> Node<T, R> {
     fn did_set_headers(&mut self, conn: ConnId, on: bool) -> Result<Did, Failure<NodeFault>>
         ensures { IsAnswered (refusal self.old (Own (OfConn conn (SetHeaders on)))) (λ did. Does self.old (Own (OfConn conn (SetHeaders on))) (did_of did) self.new) (self.new ≡ self.old) result }
     {
-        match self.set_headers(conn, on) {
-            Ok(()) => Ok(Did::answer_alone(self.alloc, Answer::Nothing)),
-            Err(fault) => Err(Failure::Refused(fault)),
+        if let Err(fault) = self.set_headers(conn, on) {
+            return Err(Failure::Refused(fault));
         }
+        Ok(Did::answer_alone(self.alloc, Answer::Nothing))
     }
 
     /// Shuts a connection.

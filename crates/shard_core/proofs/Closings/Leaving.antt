@@ -8,7 +8,7 @@ use Rattle.list_laws.proofs.Changes.{append_nil, append_assoc, map_append}
 use Rattle.list_laws.proofs.Tests.{eq_true, eq_false, no_end}
 use Rattle.client_frames.specs.ErrTexts.{err_line}
 use Rattle.client_frames.specs.Frames.{reply_line}
-use Rattle.outbox.specs.Views.{Written, with_entry, with_last, without_first, reply_entry}
+use Rattle.outbox.specs.Views.{Written, with_entry, with_entries, with_last, without_first, reply_entry}
 use Rattle.sub_table.specs.declared.Subscription.{Subscription}
 use Rattle.subj.specs.declared.jobs.Job.{Job}
 use Rattle.shard_core.specs.Shards.{State, Client, client_at, takes_events, is_open, takes_headers, with_outbox, clients_with_change, fits}
@@ -16,7 +16,7 @@ use Rattle.shard_core.specs.Owed.{Walk, walk, whole_walk, first_step, walk_after
 use Rattle.shard_core.specs.Puts.{entries_for}
 use Rattle.shard_core.specs.ShardEvents.{Event, Attach, Subscribe, Unsubscribe, Reply, SetHeaders, Shut, Detach, Take, Begin, Claim, End, DropJob, Drain, Collect}
 use Rattle.shard_core.specs.ShardSteps.{sub_called, new_client, new_sub, after_subscribe, ended_now, after_unsubscribe, answer_fits, was_shut, done_with, shard_refusal, shard_after, shut_by}
-use Rattle.shard_core.specs.Causes.{Leaves, with_entries, with_given, IsDetached, ConnectionsLeave, GivesAll, RoomDecides}
+use Rattle.shard_core.specs.Causes.{Leaves, with_given, IsDetached, ConnectionsLeave, GivesAll, RoomDecides}
 use Rattle.shard_core.proofs.Steps.LawEvents.{walk_gives}
 use Rattle.shard_core.proofs.Clients.Outboxes.{changed_here, changed_there, chosen_same, gone, stays, entries_append, entries_here, entries_there, stays_open, stays_shut, shuts}
 

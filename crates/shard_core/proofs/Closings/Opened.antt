@@ -10,17 +10,19 @@ use Rattle.list_laws.specs.Lists.{In, Each, Pairs}
 use Rattle.list_laws.proofs.Lists.{in_map, pairs_append}
 use Rattle.list_laws.proofs.Tests.{eq_true, eq_false, true_eq, false_eq, has_in}
 use Rattle.list_laws.proofs.Changes.{map_append, map_map, map_same, pairs_filter, append_nil, append_assoc}
-use Rattle.sub_table.specs.Subscriptions.{is_of, has_serial, serial_of, without_serial, with_one_more, CountFits, serials_of as serials_of_conn}
+use Rattle.sub_table.specs.Subscriptions.{is_of, has_serial, serial_of, without_serial, with_more, with_one_more, CountFits, CountsFit, serials_of as serials_of_conn}
 use Rattle.sub_table.specs.declared.Subscription.{Subscription}
 use Rattle.shard_core.specs.Closings.{serials_of, is_left, left_of, closing, closings_of}
 use Rattle.shard_core.specs.Owed.{sub_with_count}
 use Rattle.shard_core.specs.Opened.{Opened, AreRising, IsNext, CanCount, IsOpened, with_counts, with_closings}
 use Rattle.shard_core.specs.Notes.{HoldNotes}
+use Rattle.shard_core.specs.RunReceivers.{sub_with_more}
+use Rattle.shard_core.specs.RunSteps.{CanCountMore}
 use Rattle.shard_core.specs.declared.notes.Notes.{Notes}
 use Rattle.shard_core.proofs.Closings.Closed.{serials_left}
 
 -- what holds of each place holds of each entry
-all_each : {A : Type 0} (P : A → Type 0) (xs : List A) → All P xs → Each P xs
+pub all_each : {A : Type 0} (P : A → Type 0) (xs : List A) → All P xs → Each P xs
 all_each P [] h x i = absurd i
 all_each P (y ∷ ys) h x (inl e) = subst P (sym e) (h 0 y (omega arith))
 all_each P (y ∷ ys) h x (inr i) = all_each P ys (λ k d lt. h (suc k) d (omega arith)) x i
@@ -236,6 +238,63 @@ counted_twice k given u apart = go (has_serial k u) (list_any (nat_eq u.serial) 
 
 pub counts_step : (k : ℕ) (given : List ℕ) (o : Opened) → Each (λ j. k ≢ j) given → with_counts given (with_counts (k ∷ []) o) ≡ with_counts (k ∷ given) o
 counts_step k given o apart = opened_same _ _ o.deltas o.deltas (map_map (sub_with_count (k ∷ [])) (sub_with_count given) o.subs ∙ map_same (λ u. sub_with_count given (sub_with_count (k ∷ []) u)) (sub_with_count (k ∷ given)) o.subs (λ u. counted_twice k given u apart)) refl
+
+-- ---- several messages more of one serial
+
+lacks_more : (k n : ℕ) (us : List Subscription) → Lacks k us → map (sub_with_more k n) us ≡ us
+lacks_more k n [] none = refl
+lacks_more k n (u ∷ us) none =
+    ap (λ b. cond b (record u { delivered = u.delivered + n }) u ∷ map (sub_with_more k n) us) (lacks_here k u us none)
+    ∙ ap (λ l. u ∷ l) (lacks_more k n us (λ j i. none j (inr i)))
+
+pub more_one : (k n : ℕ) (us : List Subscription) → AreRising us → with_more k n us ≡ map (sub_with_more k n) us
+more_one k n [] rising = refl
+more_one k n (v ∷ us) rising = go (has_serial k v) refl (more_one k n us rising.1)
+  where
+    more : Subscription
+    more = record v { delivered = v.delivered + n }
+
+    go : (b : Bool) → has_serial k v ≡ b → with_more k n us ≡ map (sub_with_more k n) us
+        → cond b (more ∷ us) (v ∷ with_more k n us) ≡ cond b more v ∷ map (sub_with_more k n) us
+    go true e below = ap (λ l. more ∷ l) (sym (lacks_more k n us (later k v us rising e)))
+    go false e below = ap (λ l. v ∷ l) below
+
+found_more : (k n : ℕ) (us : List Subscription) (u : Subscription)
+    → CanCountMore n k us → find (has_serial k) us ≡ Some u → u.delivered + n < 2 ^ 64
+found_more k n [] u can found = absurd (none-some u found)
+found_more k n (v ∷ us) u can found =
+    go (has_serial k v) refl found (found_more k n us u (λ i d lt. can (suc i) d (omega arith)))
+  where
+    go : (b : Bool) → has_serial k v ≡ b → cond b (Some v) (find (has_serial k) us) ≡ Some u
+        → (find (has_serial k) us ≡ Some u → u.delivered + n < 2 ^ 64) → u.delivered + n < 2 ^ 64
+    go true e found below =
+        subst (λ (w : Subscription). w.delivered + n < 2 ^ 64) (same_Some v u found)
+        (can 0 v (omega arith) (eq_true v.serial k e))
+    go false e found below = below found
+
+pub more_fits : (k n : ℕ) (us : List Subscription) → CanCountMore n k us → CountsFit k n us
+more_fits k n us can = go (find (has_serial k) us) refl
+  where
+    go : (o : Option Subscription) → find (has_serial k) us ≡ o → IfSome o (λ (u : Subscription). u.delivered + n < 2 ^ 64)
+    go None none = tt
+    go (Some u) found = found_more k n us u can found
+
+-- another's count stays as it is
+pub still_more : (j k n : ℕ) (us : List Subscription)
+    → k ≢ j → CanCountMore n j us → CanCountMore n j (map (sub_with_more k n) us)
+still_more j k n us apart can =
+    All-map (λ (u : Subscription). u.serial ≡ j → u.delivered + n < 2 ^ 64) (sub_with_more k n) us
+    (All-weaker (λ (u : Subscription). u.serial ≡ j → u.delivered + n < 2 ^ 64)
+    (λ u. (sub_with_more k n u).serial ≡ j → (sub_with_more k n u).delivered + n < 2 ^ 64) (λ u it. other u it) us can)
+  where
+    other : (u : Subscription) → (u.serial ≡ j → u.delivered + n < 2 ^ 64)
+        → (sub_with_more k n u).serial ≡ j → (sub_with_more k n u).delivered + n < 2 ^ 64
+    other u it = go (has_serial k u) refl
+      where
+        go : (b : Bool) → has_serial k u ≡ b → (cond b (record u { delivered = u.delivered + n }) u).serial ≡ j
+            → (cond b (record u { delivered = u.delivered + n }) u).delivered + n < 2 ^ 64
+        go true e at = absurd (apart (sym (eq_true u.serial k e) ∙ at))
+        go false e at = it at
 
 -- ---- what is left of a connection
 

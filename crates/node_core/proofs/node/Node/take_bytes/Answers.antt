@@ -1,14 +1,16 @@
-use Rattle.std.proofs.Common.{◌≡◌, ◌<◌, ℕ, length, set, Some, sym, ap, ◌∙◌, subst}
+use Rattle.std.proofs.Common.{◌≡◌, ◌<◌, ℕ, length, set, Some, sym, ap, ◌∙◌, subst, refl}
 use Rattle.std.specs.Prelude.{slice_get}
 use Rattle.std.proofs.lemmas.Option.{slice_get-get_or}
 use Rattle.subj.specs.Answers.{IsAnswered}
 use Rattle.shard_core.specs.ShardEvents.{Taken}
 use Rattle.node_law.specs.Events.{Own, OfConn}
+use Rattle.node_law.specs.declared.faults.NodeFault.TheVariants.{Shard}
+use Rattle.shard_core.specs.declared.faults.ShardFault.TheVariants.{NoConn}
 use Rattle.node_law.specs.declared.events.ConnEvent.TheVariants.{Take}
 use Rattle.node_core.specs.Served.{served_of_parts, refusal}
 use Rattle.node_parts.specs.Lines.{first_entries}
 use Rattle.node_core.specs.TakesBytes.{TakesBytes}
-use Rattle.node_core.proofs.Calls.Composed.{conn_call}
+use Rattle.node_core.proofs.Calls.Composed.{conn_call, no_conn}
 use Rattle.node_core.proofs.Calls.Taking.{line_takes, takes_bytes}
 use Rattle.node_core.proofs.node.Node.take_bytes.Goals as goal
 
@@ -37,3 +39,12 @@ returns g c =
     (line_takes x c.take_bytes.new.self c.args.conn c.args.count _ _ c.take_bytes.result c.take_bytes.ensures)).answers in
     subst (λ s. IsAnswered (refusal s (Own (OfConn c.args.conn e))) (λ taken. TakesBytes s c.args.conn c.args.count taken c.args.out.now.items c.take_bytes.new.out.items after) ((after ≡ s) × (c.take_bytes.new.out.items ≡ c.args.out.now.items)) c.take_bytes.result) c.self.view_is
     (takes_bytes _ after x c.take_bytes.new.self c.args.conn c.args.count _ _ _ c.take_bytes.result c.take_bytes.ensures done)
+
+pub returns-in_default : goal.returns-in_default
+returns-in_default g c =
+    let old = c.self.inside in (
+      subst (λ s. refusal s (Own (OfConn c.args.conn (Take c.args.count))) ≡ Some (Shard NoConn)) c.self.view_is
+          (no_conn old.side (g.R.Race.contents old.race) old.lines.items c.args.conn c.len.result c.place_of_conn.result
+          (Take c.args.count) c.place_of_conn.ensures.place c.in_default.is),
+      (refl, refl),
+    )

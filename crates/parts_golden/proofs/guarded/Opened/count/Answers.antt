@@ -12,4 +12,4 @@ count-requires g c =
 
 pub invariant_of-self : goal.invariant_of-self
 invariant_of-self g c =
-    record { below = subst (λ l. All (λ (s : Subscription). s.serial ≤ c.args.self.now.last) l) (sym c.count.ensures) (below_counted c.args.self.now.last c.args.serial (g.T.SubTable.contents c.args.self.now.table) c.args.self.now.below) }
+    record { below = subst (λ l. All (λ (s : Subscription). s.serial ≤ c.args.self.now.last) l) (sym c.count.ensures) (below_counted c.args.self.now.last c.args.serial 1 (g.T.SubTable.contents c.args.self.now.table) c.args.self.now.below) }

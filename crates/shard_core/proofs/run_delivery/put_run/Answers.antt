@@ -1,0 +1,20 @@
+use Rattle.std.proofs.Common.{◌≡◌, true, ◌∙◌}
+use Rattle.shard_core.specs.Held.{shard_with}
+use Rattle.shard_core.proofs.RunSteps.{given_apart, has_delivered}
+use Rattle.shard_core.proofs.run_delivery.put_run.Goals as goal
+
+pub count_run-requires-clause-apart : goal.count_run-requires-clause-apart
+count_run-requires-clause-apart g c =
+    let put : c.in-Ok.put ≡ true = c.if-not-put.false in
+    given_apart (shard_with c.args.shard c.args.conns.now.shown c.args.openings.now.subs) c.args.first.now
+    c.args.jobs.now c.requires.alike (c.in-Ok.ensures.rising put) c.deref.result.now
+    (c.deref.ensures.value ∙ c.in-Ok.ensures.given put)
+
+pub returns-clause-put : goal.returns-clause-put
+returns-clause-put g c _ s shard subs clients =
+    let put : c.in-Ok.put ≡ true = c.if-not-put.false in
+    has_delivered s c.args.first.now c.args.jobs.now c.requires.alike c.requires.some c.args.shard c.args.openings.now
+    c.count_run.new.self c.args.conns.now c.stage_noted.new.conns c.commit.new.self c.deref.result.now shard subs
+    clients c.requires.settled c.numbers_are_apart.ensures c.in-Ok.ensures.shown (c.in-Ok.ensures.rising put)
+    (c.in-Ok.ensures.staged put) (c.deref.ensures.value ∙ c.in-Ok.ensures.given put) c.commit.ensures.shown
+    c.count_run.ensures
