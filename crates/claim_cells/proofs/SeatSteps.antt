@@ -7,3 +7,4 @@ pub mod Gathering
 pub mod Turns
 pub mod Wins
 pub mod OneSeat
+pub mod Many

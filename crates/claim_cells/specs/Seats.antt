@@ -1,5 +1,5 @@
 -- What the race and its seats show to contracts.
-use Rattle.std.specs.Prelude.{◌≡◌, ℕ, ◌+◌, ◌*◌, ◌<◌, ◌≤◌, List, [], ◌∷◌, Some, None}
+use Rattle.std.specs.Prelude.{◌≡◌, ℕ, ◌+◌, ◌-◌, ◌*◌, ◌<◌, ◌≤◌, List, [], ◌∷◌, Some, None}
 use Rattle.atomic_table.specs.Table.{Me}
 use Rattle.atomic_table.specs.Seated.{TableId}
 use Rattle.claim_cells.specs.declared.parts.HubPart.{HubPart}
@@ -34,6 +34,10 @@ last_load loads = last_from 0 loads
 -- the shard has seen that the turn behind its finished one is issued
 abbrev pub HasTurn : ShardPart → Type 0
 HasTurn p = p.finished < last_load p.loads
+
+-- how many turns behind its finished one it has seen issued
+abbrev pub turns_seen : ShardPart → ℕ
+turns_seen p = last_load p.loads - p.finished
 
 -- the same of one of its loads
 abbrev pub Sighted : ShardPart → Type 0

@@ -1,5 +1,5 @@
 -- What each step on the words tells the seat that makes it.
-use Rattle.std.specs.Prelude.{◌≡◌, ℕ, ◌+◌, ◌-◌, ◌<◌, ◌≤◌, Bool, true, false, List, [], ◌∷◌, ◌++◌, length, slice_set, slice_index_or, Option, Some, None}
+use Rattle.std.specs.Prelude.{◌≡◌, ℕ, zero, suc, ◌+◌, ◌-◌, ◌<◌, ◌≤◌, Bool, true, false, List, [], ◌∷◌, ◌++◌, length, slice_set, slice_index_or, Option, Some, None}
 use Rattle.atomic_table.specs.Table.{Step, Me}
 use Rattle.claim_cells.specs.declared.parts.HubPart.{HubPart}
 use Rattle.claim_cells.specs.declared.parts.ShardPart.{ShardPart}
@@ -26,6 +26,11 @@ lost_by p x = record { shard = p.shard; loads = p.loads; finished = p.finished; 
 
 abbrev pub finished_one : ShardPart → ShardPart
 finished_one p = record { shard = p.shard; loads = p.loads; finished = p.finished + 1; next = 0; won = p.won; lost = p.lost }
+
+-- it has finished so many turns, one after the other
+abbrev pub finished_more : ℕ → ShardPart → ShardPart
+finished_more zero p = p
+finished_more (suc n) p = record p { finished = p.finished + suc n; next = 0 }
 
 abbrev pub with_hub : View → HubPart → ℕ → View
 with_hub v h at = record { hub = Some h; shards = v.shards; at = at; count = v.count }

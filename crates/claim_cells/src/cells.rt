@@ -3,8 +3,8 @@
 ghost use Rattle.std.specs.Prelude.{◌≡◌, ℕ, ◌+◌, ◌<◌, ◌≤◌, [], true, false, IfOk, IsOk};
 ghost use Rattle.subj.specs.declared.limits.TheConstants.{MAX_COUNTER, MAX_QUEUE_NAMES, MAX_SHARDS, WINDOW};
 ghost use Rattle.claim_cells.specs.Rule.{Has, whole_view, fresh_hub};
-ghost use Rattle.claim_cells.specs.Steps.{part_after_load, won_by, lost_by, finished_one};
-ghost use Rattle.claim_cells.specs.Seats.{HasTurn, last_load};
+ghost use Rattle.claim_cells.specs.Steps.{part_after_load, won_by, lost_by, finished_more, finished_one};
+ghost use Rattle.claim_cells.specs.Seats.{HasTurn, last_load, turns_seen};
 ghost use Rattle.claim_cells.specs.Calls.{AllNew, AreLoads, IsIssuedOrBusy, IsLooked, ShowsRoom};
 
 use crate::parts::View;
@@ -167,5 +167,18 @@ impl Cells {
         self.finish_at(&mut seat.place, seat.shard, turn);
         seat.finished = turn;
         seat.next = 0;
+    }
+
+    /// The shard has done with so many turns from the seat's turn on: [`Cells::finish`] for each of them in
+    /// order. Required: the seat is of this race and has seen that they are issued ([`ShardSeat::turns_seen`]).
+    pub fn finish_many(&self, seat: &mut ShardSeat, turns: u64)
+        requires race { seat.old.race ≡ self.now }
+        requires seen { turns ≤ turns_seen seat.old.part }
+        ensures race { seat.new.race ≡ seat.old.race }
+        ensures part { seat.new.part ≡ finished_more turns seat.old.part }
+    {
+        for _turn in 0..turns {
+            self.finish(seat);
+        }
     }
 }

@@ -4,7 +4,7 @@ ghost use Rattle.std.specs.Prelude.{◌≡◌, ◌<◌, ◌≤◌, nat_lt};
 ghost use Rattle.subj.specs.Numbers.{next_turn};
 ghost use Rattle.claim_cells.specs.Rule.{newcomer};
 ghost use Rattle.claim_cells.specs.Steps.{part_of};
-ghost use Rattle.claim_cells.specs.Seats.{IsShard, last_load};
+ghost use Rattle.claim_cells.specs.Seats.{IsShard, last_load, turns_seen};
 
 use crate::parts::View;
 use atomic_table::Seat;
@@ -107,6 +107,20 @@ impl ShardSeat {
         ensures { result ≡ nat_lt self.now.part.finished (last_load self.now.part.loads) }
     {
         self.finished < self.seen
+    }
+
+    /// How many turns from the seat's turn on it has seen issued: 0 where [`ShardSeat::has_turn`] is false.
+    pub fn turns_seen(&self) -> u64
+        ensures { result ≡ turns_seen self.now.part }
+    {
+        self.seen.get().saturating_sub(self.finished.get())
+    }
+
+    /// The last turn that the shard finished; 0 where it finished none.
+    pub fn finished(&self) -> Turn
+        ensures { result ≡ self.now.part.finished }
+    {
+        self.finished
     }
 
     /// The least index that it may claim next.

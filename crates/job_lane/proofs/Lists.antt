@@ -1,5 +1,5 @@
 -- Runs of jobs as lists: all of their jobs, their lengths, and what is given of them.
-use Rattle.std.proofs.Common.{◌≡◌, ℕ, zero, suc, ◌+◌, ◌-◌, ◌<◌, ◌≤◌, List, [], ◌∷◌, ◌++◌, length, map, drop, Bool, true, false, refl, ap, sym, ◌∙◌, subst, arith, append_assoc, append-nil, length-append, All}
+use Rattle.std.proofs.Common.{◌≡◌, ℕ, zero, suc, ◌+◌, ◌-◌, ◌<◌, ◌≤◌, List, [], ◌∷◌, ◌++◌, length, map, drop, Bool, true, false, refl, ap, sym, ◌∙◌, subst, arith, append_assoc, append-nil, length-append, length-drop, All}
 use Rattle.std.specs.Prelude.{nat_le}
 use Rattle.std.proofs.lemmas.Bool.Decides.{nat_tests}
 use Rattle.std.proofs.lemmas.List.Sums.{sum_by-cons, sum_by-append}
@@ -78,6 +78,10 @@ goes_on [] n low = absurd (omega arith)
 goes_on (x ∷ []) n low = absurd (omega arith)
 goes_on (x ∷ y ∷ l) zero low = (x, y, l, refl, refl)
 goes_on (x ∷ y ∷ l) (suc n) low = subst (λ (k : ℕ). GoesOn (drop n (y ∷ l)) (drop k (x ∷ y ∷ l))) {x = suc (n + 1)} {y = suc n + 1} (omega arith) (goes_on (y ∷ l) n (omega arith))
+
+-- so many places further on the list still goes on
+pub stays_within : (l : List Job) (n count : ℕ) → n < length l → count ≤ length (drop 1 (drop n l)) → n + count < length l
+stays_within l n count low few = let e = length-drop 1 (drop n l) in let f = length-drop n l in omega arith
 
 -- ---- counts
 

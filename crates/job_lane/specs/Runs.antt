@@ -2,6 +2,7 @@
 use Rattle.std.specs.Prelude.{◌≡◌, ℕ, ◌-◌, MatchOption, List, [], ◌∷◌, ◌++◌, length, take, drop, slice_get, Option, Some, None}
 use Rattle.std.specs.List.{flat_map}
 use Rattle.subj.specs.declared.jobs.Job.{Job}
+use Rattle.job_lane.specs.Ends.{IsNextOf}
 
 -- the jobs of all runs
 abbrev pub jobs_of : List (List Job) → List Job
@@ -32,10 +33,19 @@ jobs_given came run = take (length came - length (not_given run)) came
 abbrev pub IsGiving : List Job → Option (List Job) → Type 0
 IsGiving came run = (before : List Job) × (came ≡ before ++ not_given run)
 
+-- the run without so many of its first jobs
+abbrev pub left_of : ℕ → Option (List Job) → Option (List Job)
+left_of count None = None
+left_of count (Some run) = Some (drop count run)
+
 -- the turn of the run's first job
 abbrev pub IsFirstTurn : Option (List Job) → Option ℕ → Type 0
 IsFirstTurn run turn = MatchOption turn (run ≡ None) (λ n. (job : Job) × (jobs : List Job) × (run ≡ Some (job ∷ jobs)) × (job.turn ≡ n))
 
--- one job more was given: the first of the run, whose turn says the how manieth it is; or none was left to give
-abbrev pub IsTaken : List Job → List Job → Option (List Job) → Option ℕ → Type 0
-IsTaken old new run turn = MatchOption turn ((new ≡ old) × (run ≡ None)) (λ n. (job : Job) × (new ≡ old ++ job ∷ []) × (job_in_hand run ≡ Some job) × (job.turn ≡ n) × (n ≡ length new))
+-- One job more was given: the first of the run, which is the next of those that were not given, and whose turn says the how
+-- manieth it is. Or none was left to give.
+abbrev pub IsTaken : List Job → List Job → List Job → Option (List Job) → Option ℕ → Type 0
+IsTaken old new left run turn =
+    MatchOption turn ((new ≡ old) × (run ≡ None) × (left ≡ []))
+    (λ n. (job : Job) × (new ≡ old ++ job ∷ []) × (job_in_hand run ≡ Some job) × (job.turn ≡ n)
+    × (n ≡ length new) × IsNextOf left job (not_given run))

@@ -1,14 +1,14 @@
 //! The two ends of a lane.
 
-ghost use Rattle.std.specs.Prelude.{◌≡◌, ◌+◌, ◌<◌, [], ◌++◌, length, None, IfOk, IfSome, IfNone, OnOk, IfErr, MatchOption};
-ghost use Rattle.job_lane.specs.Ends.{HadRoom, IsPopped, LackedRoom};
+ghost use Rattle.std.specs.Prelude.{◌≡◌, ◌+◌, ◌<◌, ◌≤◌, List, [], ◌++◌, length, None, IfOk, IfSome, IfNone, OnOk, IfErr, MatchOption};
+ghost use Rattle.job_lane.specs.Ends.{ArePopped, HadRoom, IsPopped, LackedRoom, from_hand};
 ghost use Rattle.job_lane.specs.Runs.{jobs_of};
 ghost use Rattle.job_lane.specs.Turns.{AreNumbered, AreNumberedBehind};
 
 use crate::counts::Count;
 use crate::rule::{Ends, RunPass, RunQueue};
 use crate::runs::Run;
-use crate::steps::{behind_first, drain, has_room, push_by, take_next};
+use crate::steps::{behind_first, drain, has_room, leave, push_by, take_next};
 use std::alloc::{AllocError, Global};
 use std::marker::Model;
 use std::sync::{Arc, Wait};
@@ -54,7 +54,8 @@ impl Model for LaneIn {
 
 /// The end of a lane that jobs are popped at.
 ///
-/// Seen as the lane it is of, all jobs popped so far, in order, and the one of them that is in hand.
+/// Seen as the lane it is of, all jobs popped so far, in order, the one of them that is in hand, and the
+/// jobs of its run behind it.
 #[derive(Drop)]
 pub struct LaneOut {
     queue: Arc<RunQueue, Global>,
@@ -68,7 +69,7 @@ impl Model for LaneOut {
     ghost use Rattle.crossbeam_queue.specs.Passes.{IsPassOf};
     ghost use Rattle.job_lane.specs.Ends.{Reader};
     ghost use Rattle.job_lane.specs.Rule.{known_by, IsPopping};
-    ghost use Rattle.job_lane.specs.Runs.{IsGiving, jobs_given, job_in_hand, jobs_of};
+    ghost use Rattle.job_lane.specs.Runs.{IsGiving, jobs_given, job_in_hand, jobs_of, not_given};
 
     ghost Value = { Reader };
 
@@ -76,6 +77,7 @@ impl Model for LaneOut {
       lane = end.pass.table_id;
       popped = jobs_given (jobs_of (known_by end.pass).popped) end.run;
       hand = job_in_hand end.run;
+      behind = not_given end.run;
     } };
 
     ghost invariant = { λ end. IsPassOf (arc_value end.queue) end.pass × IsPopping (known_by end.pass) × IsGiving (jobs_of (known_by end.pass).popped) end.run };
@@ -89,7 +91,8 @@ pub fn lane(alloc: Global, cap: usize) -> Result<(LaneIn, LaneOut), AllocError>
     requires { 0 < cap }
     ensures of_one { IfOk result (λ ends. ends.0.lane ≡ ends.1.lane) }
     ensures capacity { IfOk result (λ ends. ends.0.capacity ≡ cap) }
-    ensures new { IfOk result (λ ends. (ends.0.pushed ≡ []) × (ends.1.popped ≡ []) × (ends.1.hand ≡ None)) }
+    ensures new { IfOk result (λ ends. (ends.0.pushed ≡ []) × (ends.1.popped ≡ []) × (ends.1.hand ≡ None)
+        × (ends.1.behind ≡ [])) }
 {
     let spare = Vec::with_capacity(alloc, cap.checked_add(1).ok_or(AllocError)?)?;
     let count = Count::new(alloc, cap)?;
@@ -139,7 +142,7 @@ impl LaneIn {
 
 impl LaneOut {
     /// Takes the oldest job that waits into hand, in the place of the one there: its turn. The n-th job
-    /// popped has turn n. (Profile.)
+    /// popped has turn n, and is the first of those behind the one in hand, where there are such. (Profile.)
     ///
     /// None comes only where the lane was empty at some moment of the call; nothing was popped, and
     /// no job is in hand. No contract says the first: how many jobs had been pushed, this end alone can't
@@ -147,9 +150,29 @@ impl LaneOut {
     pub fn pop<R: Wait>(&mut self, rt: &R) -> Option<Turn>
         ensures lane { self.new.lane ≡ self.old.lane }
         ensures some { IfSome result (IsPopped self.old self.new) }
-        ensures none { IfNone result ((self.new.popped ≡ self.old.popped) × (self.new.hand ≡ None)) }
+        ensures none { IfNone result ((self.new.popped ≡ self.old.popped) × (self.new.hand ≡ None)
+            × (self.old.behind ≡ []) × (self.new.behind ≡ [])) }
     {
         take_next(rt, &self.queue, &mut self.pass, &mut self.run)
+    }
+
+    /// Pops so many jobs behind the one in hand at once: the last of them is in hand then, in its place.
+    /// With 0 all stays as it is. Required: so many are there, so that one more is [`LaneOut::waiting`].
+    pub fn pop_behind(&mut self, count: usize)
+        requires { count ≤ length self.old.behind }
+        ensures { ArePopped count self.old self.new }
+    {
+        leave(&mut self.run, count);
+    }
+
+    /// The job in hand, and the jobs of its run behind it, in order. None where no job is in hand.
+    pub fn waiting(&self) -> &[Job]
+        ensures { result.now ≡ from_hand self.now }
+    {
+        match &self.run {
+            None => &[],
+            Some(run) => run.jobs(),
+        }
     }
 
     /// The job in hand: the one popped last, until a call of [`LaneOut::pop`] finds none.
@@ -160,14 +183,15 @@ impl LaneOut {
     }
 }
 
-/// The runs with the jobs that were not popped, in order. Required: the two ends are of one lane. What
-/// was popped, and behind it these jobs, is what was pushed. (Profile.)
+/// The runs with the jobs that were not popped, in order: first what is left of the run in hand. Required:
+/// the two ends are of one lane. What was popped, and behind it these jobs, is what was pushed. (Profile.)
 ///
 /// Takes no memory. The call may wait for other threads.
 #[tactic(auto, using(crate::proofs::Moves::merges))]
 pub fn meet<R: Wait>(rt: &R, writer: LaneIn, reader: LaneOut) -> Vec<Run>
     requires { writer.lane ≡ reader.lane }
     ensures jobs { writer.pushed ≡ reader.popped ++ jobs_of result.items }
+    ensures behind { (later : List Job) × (jobs_of result.items ≡ reader.behind ++ later) }
     ensures turns { AreNumbered writer.pushed }
 {
     let LaneIn {

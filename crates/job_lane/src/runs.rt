@@ -1,6 +1,6 @@
 //! Runs of jobs.
 
-ghost use Rattle.std.specs.Prelude.{◌≡◌, ◌<◌, ◌∷◌, true, false, length, IfOk, IfErr};
+ghost use Rattle.std.specs.Prelude.{◌≡◌, ◌<◌, ◌≤◌, ◌∷◌, true, false, length, drop, IfOk, IfErr};
 ghost use Rattle.job_lane.specs.Runs.{GoesOn};
 
 use std::alloc::{AllocError, Global};
@@ -81,5 +81,13 @@ impl Run {
         }
         self.before = next;
         true
+    }
+
+    /// Leaves so many of its first jobs behind. Required: it has more.
+    pub(crate) fn leave(&mut self, count: usize)
+        requires { count ≤ length (drop 1 self.old) }
+        ensures { self.new ≡ drop count self.old }
+    {
+        self.before += count;
     }
 }

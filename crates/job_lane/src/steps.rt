@@ -5,7 +5,7 @@ ghost use Rattle.crossbeam_queue.specs.Passes.{view, IsPassOf, IsSamePass, ruled
 ghost use Rattle.subj.specs.declared.jobs.Job.{Job};
 ghost use Rattle.job_lane.specs.Ends.{HadRoom, LackedRoom};
 ghost use Rattle.job_lane.specs.Rule.{AreLastLengths, IsPushing, IsPopping, total_of};
-ghost use Rattle.job_lane.specs.Runs.{GoesOnIn, IsFirstTurn, IsGiving, IsTaken, jobs_given, jobs_of, not_given};
+ghost use Rattle.job_lane.specs.Runs.{GoesOnIn, IsFirstTurn, IsGiving, IsTaken, jobs_given, jobs_of, left_of, not_given};
 ghost use Rattle.job_lane.specs.Turns.{AreNumberedBehind};
 
 use crate::counts::Count;
@@ -76,6 +76,16 @@ fn go_on(run: &mut Option<Run>) -> bool
     }
 }
 
+/// Leaves so many of the run's first jobs behind. Required: it has more, or there is no run and they are none.
+pub fn leave(run: &mut Option<Run>, count: usize)
+    requires { count ≤ length (not_given run.old) }
+    ensures { run.new ≡ left_of count run.old }
+{
+    if let Some(run) = run {
+        run.leave(count);
+    }
+}
+
 /// The turn of the run's first job.
 fn first_turn(run: &Option<Run>) -> Option<Turn>
     ensures { IsFirstTurn run.now result }
@@ -98,7 +108,8 @@ pub fn take_next<R: Wait>(
     ensures table { pass.new.table_id ≡ pass.old.table_id }
     ensures popping { IsPopping (view pass.new) }
     ensures giving { IsGiving (jobs_of (view pass.new).popped) run.new }
-    ensures taken { IsTaken (jobs_given (jobs_of (view pass.old).popped) run.old) (jobs_given (jobs_of (view pass.new).popped) run.new) run.new result }
+    ensures taken { IsTaken (jobs_given (jobs_of (view pass.old).popped) run.old)
+        (jobs_given (jobs_of (view pass.new).popped) run.new) (not_given run.old) run.new result }
 {
     if go_on(run) {
         return first_turn(run);
