@@ -2,6 +2,7 @@
 pub mod Joining
 pub mod Clients
 pub mod Working
+pub mod Runs
 pub mod Claims
 pub mod Drops
 pub mod Telling

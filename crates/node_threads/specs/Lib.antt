@@ -2,6 +2,8 @@
 pub mod Names
 -- what a shard did, step by step, the newest step first
 pub mod Steps
+-- the same with what it refused between these steps
+pub mod Logs
 -- a shard at work: what it keeps of its lane and of the race
 pub mod AtWork
 -- what a turn of a shard does

@@ -3,8 +3,9 @@ use Rattle.std.specs.Prelude.{◌≡◌, ℕ, Bool, List, [], ◌∷◌, ◌++�
 use Rattle.subj.specs.declared.keys.Delta.{Delta}
 use Rattle.subj.specs.declared.jobs.Job.{Job}
 use Rattle.shard_core.specs.ShardEvents as of_shard
+use Rattle.shard_core.specs.declared.faults.ShardFault.{ShardFault}
 use Rattle.node_threads.specs.AtWork.{AtWork, Makes, at_start}
-use Rattle.node_threads.specs.Steps.{Done}
+use Rattle.node_threads.specs.Logs.{Made, Did, WasRefused, Logs, steps_in}
 use Rattle.node_threads.specs.declared.shard_entries.ShardEvent.{ShardEvent}
 use Rattle.node_threads.specs.declared.shard_entries.ShardEvent.TheVariants as event
 use Rattle.node_threads.specs.declared.shard_entries.ShardTold.{ShardTold}
@@ -95,19 +96,25 @@ entry_of (of_shard.DropJob waiting) answer = entry (event.DropJob waiting) (told
 entry_of of_shard.Drain answer = entry event.Drain (told_of answer)
 entry_of of_shard.Collect answer = entry (event.Collect (deltas_in answer)) told.Work
 
--- of all steps, the newest of which stands first in their list, and last on the tape
-abbrev pub entries_of : List Done → List ShardEntry
+-- a refusal is written with its cause; a collect is never refused
+abbrev pub refused_entry : of_shard.Event → ShardFault → ShardEntry
+refused_entry event why = entry (entry_of event (of_shard.Collected [])).event (told.Refused why)
+
+-- of all that was done and refused, the newest of which stands first in the list, and last on the tape
+abbrev pub entries_of : List Made → List ShardEntry
 entries_of [] = []
-entries_of (d ∷ earlier) = entries_of earlier ++ entry_of d.event d.answer ∷ []
+entries_of (Did d ∷ earlier) = entries_of earlier ++ entry_of d.event d.answer ∷ []
+entries_of (WasRefused before event why ∷ earlier) = entries_of earlier ++ refused_entry event why ∷ []
 
 -- ---- a shard at work, and its tape
 
--- the shard makes some steps, and just these are added to its tape
+-- the shard makes some steps and refuses what it must between them, and just this is added to its tape
 pub record Tells (old : AtWork) (tape : Option (List ShardEntry)) (new : AtWork) (more : Option (List ShardEntry)) : Type 0 where
-  pub steps : List Done
-  pub makes : Makes old steps new
-  pub grows : Grows tape (entries_of steps) more
+  pub log : List Made
+  pub makes : Makes old (steps_in log) new
+  pub logs : Logs old.state log new.state
+  pub grows : Grows tape (entries_of log) more
 
--- all that it did since its start is on its tape, where that is kept
+-- all that it did and refused since its start is on its tape, where that is kept
 abbrev pub IsTape : ℕ → AtWork → Option (List ShardEntry) → Type 0
 IsTape shards w tape = Tells (at_start w.part.shard shards) (Some []) w tape

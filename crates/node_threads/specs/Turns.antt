@@ -1,5 +1,6 @@
 -- What a turn of a shard does.
-use Rattle.std.specs.Prelude.{◌≡◌, ℕ, ◌+◌, ◌<◌, ◌≤◌, Bool, true, false, List, [], ◌∷◌, length, Option, None, Some, is_some, Result, Ok, Err}
+use Rattle.std.specs.Prelude.{◌≡◌, ℕ, ◌+◌, ◌<◌, ◌≤◌, Bool, true, false, List, [], ◌∷◌, ◌++◌, length, take, Option, None, Some, is_some, Result, Ok, Err}
+use Rattle.std.specs.List.{flat_map}
 use Rattle.list_laws.specs.Lists.{Each}
 use Rattle.subj.specs.declared.jobs.Job.{Job}
 use Rattle.subj.specs.declared.failures.Failure.{Failure}
@@ -8,11 +9,12 @@ use Rattle.claim_cells.specs.Seats.{HasTurn}
 use Rattle.shard_core.specs.ShardEvents.{Event, Attach, Subscribe, Unsubscribe, Reply, SetHeaders, Shut, Detach, Take, Begin, Claim, End, DropJob, Drain, Collect}
 use Rattle.shard_core.specs.declared.faults.ShardFault.{ShardFault}
 use Rattle.shard_core.specs.declared.faults.ShardFault.TheVariants.{NoJob}
+use Rattle.shard_core.specs.Runs.{CanRun, delivered_run}
 use Rattle.shard_core.specs.Shards.{State}
 use Rattle.node_threads.specs.AtWork.{AtWork, Makes}
 use Rattle.node_threads.specs.Steps.{Done}
 use Rattle.node_threads.specs.declared.turned.Turned.{Turned}
-use Rattle.node_threads.specs.declared.turned.Turned.TheVariants.{Idle, Worked, Short}
+use Rattle.node_threads.specs.declared.turned.Turned.TheVariants.{Idle, Worked, WorkedRun, Short}
 
 -- an event of a turn that is not its end
 abbrev pub is_work : Event → Bool
@@ -44,6 +46,25 @@ pub record HasNone (w : AtWork) : Type 0 where
   pub hand : w.state.hand ≡ None
   pub turn : is_some w.waiting ≡ true → ¬ HasTurn w.part
 
+-- the events of these steps, the oldest first
+abbrev pub events_of : List Done → List Event
+events_of [] = []
+events_of (d ∷ earlier) = events_of earlier ++ d.event ∷ []
+
+-- each of these jobs is begun, and ends
+abbrev pub begun_and_ended : List Job → List Event
+begun_and_ended jobs = flat_map (λ job. Begin job ∷ End ∷ []) jobs
+
+-- so many jobs, at least one, are each begun and ended in turn; and that is all that is done
+pub record HasWorkedRun (old : AtWork) (count last : ℕ) (new : AtWork) : Type 0 where
+  pub jobs : List Job
+  pub steps : List Done
+  pub makes : Makes old steps new
+  pub events : events_of steps ≡ begun_and_ended jobs
+  pub count_is : count ≡ length jobs
+  pub some : 0 < count
+  pub last_is : last ≡ old.state.finished + count
+
 -- after some such steps the job in hand is ended
 pub record HasEnded (old : AtWork) (turn : ℕ) (new : AtWork) : Type 0 where
   pub last : Done
@@ -56,6 +77,7 @@ pub record HasEnded (old : AtWork) (turn : ℕ) (new : AtWork) : Type 0 where
 abbrev pub Turns : AtWork → Turned → AtWork → Type 0
 Turns old Idle new = Makes old [] new × HasNone new
 Turns old (Worked turn) new = HasEnded old turn new
+Turns old (WorkedRun jobs last) new = HasWorkedRun old jobs last new
 Turns old Short new = HasWorked old new
 
 -- ---- a job is dropped
@@ -78,6 +100,13 @@ Drops old (Err OutOfMemory) new = Makes old [] new
 -- a job is in hand, or one that was popped has a turn that the shard has seen issued
 abbrev pub MayBegin : AtWork → Type 0
 MayBegin w = w.state.hand ≡ None → (is_some w.waiting ≡ true) × HasTurn w.part
+
+-- so many of these jobs, from the first on, were delivered at once; where none was, the shard is as it was
+pub record DeliversFirst (jobs : List Job) (count : ℕ) (old new : State) : Type 0 where
+  pub few : count ≤ length jobs
+  pub none : count ≡ 0 → new ≡ old
+  pub can : 0 < count → CanRun old (take count jobs)
+  pub after : 0 < count → new ≡ delivered_run old (take count jobs)
 
 -- the index is the next one of the job in hand
 pub record MayClaim (index : ℕ) (s : State) : Type 0 where

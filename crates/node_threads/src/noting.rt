@@ -1,10 +1,13 @@
 //! The steps of a shard's work, written down.
 
 ghost use Rattle.std.specs.Prelude.{◌∷◌, [], cond, Some, None};
-ghost use Rattle.node_threads.specs.Tapes.{Grows, begin_entry, claim_entry, drop_entry, end_entry};
+ghost use Rattle.shard_core.specs.ShardEvents.{DropJob};
+ghost use Rattle.shard_core.specs.declared.faults.ShardFault.TheVariants.{NoJob};
+ghost use Rattle.node_threads.specs.Tapes.{Grows, begin_entry, claim_entry, drop_entry, end_entry, refused_entry};
 
 use crate::shard_entries::{ShardEntry, ShardEvent, ShardTold};
 use crate::tape::Tape;
+use shard_core::ShardFault;
 use subj::Job;
 
 /// That this job was begun.
@@ -61,5 +64,18 @@ pub(crate) fn note_drop(tape: &mut Tape<ShardEntry>, job: Job, waited: bool)
     tape.note(ShardEntry {
         event: ShardEvent::DropJob(waited.then_some(job)),
         told: ShardTold::Dropped(Some(turn)),
+    });
+}
+
+/// That there was no job to drop.
+pub(crate) fn note_no_job(tape: &mut Tape<ShardEntry>)
+    ensures { Grows tape.old (refused_entry (DropJob None) NoJob ∷ []) tape.new }
+{
+    if !tape.is_kept() {
+        return;
+    }
+    tape.note(ShardEntry {
+        event: ShardEvent::DropJob(None),
+        told: ShardTold::Refused(ShardFault::NoJob),
     });
 }

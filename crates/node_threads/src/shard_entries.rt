@@ -3,6 +3,7 @@
 ghost use Rattle.std.specs.Prelude.{◌≡◌, IfOk};
 
 use client_frames::{ErrText, ReplyFrame};
+use shard_core::ShardFault;
 use std::alloc::{AllocError, Global};
 use std::marker::Model;
 use subj::{ConnId, Delta, Job, Key, Sid, SubId, Turn};
@@ -134,9 +135,11 @@ pub enum ShardTold {
     Dropped(Option<Turn>),
     /// No subscription is taken any more.
     Drained,
+    /// Nothing was done, for this cause.
+    Refused(ShardFault),
 }
 
-/// A step of a shard: what it was asked, and what it answered. (Profile.)
+/// A step of a shard, or a refusal: what it was asked, and what it answered. (Profile.)
 #[derive(Drop)]
 pub struct ShardEntry {
     pub event: ShardEvent,

@@ -1,6 +1,6 @@
 //! What stands under the lock of a shard: its state, the calls that its connections make, its turns, the jobs that it drops, and its end.
 
-ghost use Rattle.std.specs.Prelude.{◌≡◌, ◌-◌, ◌≤◌, [], None, Some, IfOk, slice_get, option_to_list, true, false, is_some, nat_lt, OnOk, OnErr};
+ghost use Rattle.std.specs.Prelude.{◌≡◌, ◌-◌, ◌≤◌, [], None, Some, IfOk, IfSome, IfNone, slice_get, option_to_list, true, false, is_some, nat_lt, OnOk, OnErr};
 ghost use Rattle.subj.specs.Answers.{IsAnswered, IsDecided};
 ghost use Rattle.subj.specs.declared.limits.TheConstants.{MAX_SHARDS};
 ghost use Rattle.claim_cells.specs.Rule.{newcomer};
@@ -11,11 +11,11 @@ ghost use Rattle.shard_core.specs.ShardSteps.{shard_refusal};
 ghost use Rattle.node_threads.specs.AtWork.{Does, TakesBytes, at_start, Makes, HasDone};
 ghost use Rattle.claim_cells.specs.Seats.{last_load};
 ghost use Rattle.node_threads.specs.Tapes.{Tells};
-ghost use Rattle.node_threads.specs.Turns.{ClaimsOne, HasEnded, HasNone, HasTried, HasWorked, MayBegin, MayClaim, Turns, Drops, HasDropped};
+ghost use Rattle.node_threads.specs.Turns.{ClaimsOne, DeliversFirst, HasEnded, HasNone, HasTried, HasWorked, MayBegin, MayClaim, Turns, Drops, HasDropped};
 
 use crate::gates::Gate;
 use crate::node_name::NodeName;
-use crate::noting::{note_begin, note_claim, note_drop, note_end};
+use crate::noting::{note_begin, note_claim, note_drop, note_end, note_no_job};
 use crate::shard_entries::ShardEntry;
 use crate::tape::Tape;
 use crate::turned::Turned;
@@ -23,7 +23,9 @@ use claim_cells::{Cells, ShardSeat};
 use client_frames::{ErrText, ReplyFrame};
 use job_lane::LaneOut;
 use outbox::Entry;
-use shard_core::{Closed, DirtyConns, Shard, ShardFault, Subscribed, claims_are_whole};
+use shard_core::{
+    Closed, DirtyConns, Shard, ShardFault, Subscribed, claims_are_whole, runs_are_worked,
+};
 use std::alloc::{AllocError, Global};
 use std::marker::{Model, PhantomData};
 use std::sync::Wait;
@@ -66,6 +68,19 @@ fn tell<G: Gate>(gate: &G, seat: &ShardSeat, turn: Turn, index: u64)
     requires { seat.now.part.next ≤ index }
 {
     gate.hold(seat.shard(), turn, index);
+}
+
+/// Delivers as many of these jobs at once as it can, from the first on and at most so many. Gives how
+/// many; 0 also where there are fewer than two, and for want of memory.
+fn deliver_first<T: SubTable>(shard: &mut Shard<T>, jobs: &[Job], most: u64) -> usize
+    ensures most { result ≤ most }
+    ensures delivers { DeliversFirst jobs.now result shard.old.state shard.new.state }
+{
+    let most = jobs.len().min(most as usize);
+    if most < 2 {
+        return 0;
+    }
+    shard.deliver_run(&jobs[..most]).unwrap_or(0)
 }
 
 impl<T: SubTable, N: NodeName> ShardState<T, N> {
@@ -221,7 +236,9 @@ impl<T: SubTable, N: NodeName> ShardState<T, N> {
     }
 
     /// Makes a whole turn: begins the next job, unless one is in hand still; tries each of its queue names
-    /// that was not tried, where the candidate gets its entry if the claim is won; and ends the job.
+    /// that was not tried, where the candidate gets its entry if the claim is won; and ends the job. Where
+    /// no job is in hand and no tape is kept, several jobs that wait may be worked at once instead, which
+    /// leaves what working one after the other leaves.
     ///
     /// The gate is told of each candidate, before its claim. All steps that were made stand on the tape, where that
     /// is kept. Required: the race of this server. May wait.
@@ -239,6 +256,47 @@ impl<T: SubTable, N: NodeName> ShardState<T, N> {
         if !self.has_job(rt, cells) {
             return Turned::Idle;
         }
+        if let Some(turned) = self.work_run(cells, tape) {
+            return turned;
+        }
+        self.work_one(cells, gate, tape)
+    }
+
+    /// Works the jobs that wait to their ends at once, as many as that can be done of, where no tape is
+    /// kept. None where it can be done of none.
+    fn work_run(&mut self, cells: &Cells, tape: &Tape<ShardEntry>) -> Option<Turned>
+        requires { cells.now ≡ N.race }
+        ensures some { IfSome result (λ turned. Turns self.old turned self.new) }
+        ensures none { IfNone result (self.new ≡ self.old) }
+        ensures tells { Tells self.old tape.now self.new tape.now }
+    {
+        if !self.waits || tape.is_kept() {
+            return None;
+        }
+        let jobs = self.lane.waiting();
+        let count = deliver_first(&mut self.shard, jobs, self.seat.turns_seen());
+        if count == 0 {
+            return None;
+        }
+        runs_are_worked();
+        let jobs = count as u64;
+        self.lane.pop_behind(count - 1);
+        cells.finish_many(&mut self.seat, jobs);
+        self.waits = false;
+        self.next_index = 0;
+        Some(Turned::WorkedRun {
+            jobs,
+            last: self.seat.finished(),
+        })
+    }
+
+    /// Works one job, from where it stands to its end.
+    fn work_one<G: Gate>(&mut self, cells: &Cells, gate: &G, tape: &mut Tape<ShardEntry>) -> Turned
+        requires race { cells.now ≡ N.race }
+        requires may { MayBegin self.old }
+        ensures turns { Turns self.old result self.new }
+        ensures tells { Tells self.old tape.old self.new tape.new }
+    {
         if self.begin_next(tape).is_err() {
             return Turned::Short;
         }
@@ -411,8 +469,8 @@ impl<T: SubTable, N: NodeName> ShardState<T, N> {
 
     /// Drops the job in hand, or else the next one, and its turn is finished: [`Shard::drop_job`]. Gives
     /// that turn. Refused with [`ShardFault::NoJob`] where a turn would be [`Turned::Idle`]; a job that was
-    /// popped stays with the shard, also for want of memory. A drop stands on the tape, where that is kept.
-    /// Required: the race of this server. May wait.
+    /// popped stays with the shard, also for want of memory. A drop and a refusal stand on the tape, where that
+    /// is kept. Required: the race of this server. May wait.
     ///
     /// [`Shard::drop_job`]: shard_core::Shard::drop_job
     /// [`Turned::Idle`]: crate::Turned::Idle
@@ -427,6 +485,7 @@ impl<T: SubTable, N: NodeName> ShardState<T, N> {
         ensures tells { Tells self.old tape.old self.new tape.new }
     {
         if !self.has_job(rt, cells) {
+            note_no_job(tape);
             return Err(Failure::Refused(ShardFault::NoJob));
         }
         let Ok(waiting) = self.waiting_copy() else {

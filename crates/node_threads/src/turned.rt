@@ -10,6 +10,13 @@ pub enum Turned {
     Idle,
     /// The job of this turn was worked to its end.
     Worked(Turn),
+    /// Several jobs that waited were worked to their ends together, as if one after the other.
+    WorkedRun {
+        /// How many, at least one.
+        jobs: u64,
+        /// The turn of the last of them.
+        last: Turn,
+    },
     /// There was no memory. The job stays with the shard, and the next turn goes on where this one stopped.
     Short,
 }

@@ -2,3 +2,4 @@ pub mod Starting
 pub mod Draining
 pub mod Telling
 pub mod Holding
+pub mod Working

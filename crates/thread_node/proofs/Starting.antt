@@ -15,7 +15,9 @@ at_map f [] k d lt = absurd (omega arith)
 at_map f (x ∷ xs) zero d lt = refl
 at_map f (x ∷ xs) (suc k) d lt = at_map f xs k d (omega arith)
 
-get_map : {A B : Type 0} (f : A → B) (xs : List A) (k : ℕ) (d : A) → k < length xs → slice_get (map f xs) k ≡ Some (f (get_or xs k d))
+get_map : {A B : Type 0} (f : A → B) (xs : List A) (k : ℕ) (d : A)
+    → k < length xs
+    → slice_get (map f xs) k ≡ Some (f (get_or xs k d))
 get_map f [] k d lt = absurd (omega arith)
 get_map f (x ∷ xs) zero d lt = refl
 get_map f (x ∷ xs) (suc k) d lt = get_map f xs k d (omega arith)
@@ -23,13 +25,17 @@ get_map f (x ∷ xs) (suc k) d lt = get_map f xs k d (omega arith)
 before : (k : ℕ) → k + 1 - 1 ≡ k
 before k = omega arith
 
-pub named : (server : ServerIdentity) (race : RaceId) (hub : HubShown) (shards : List ShardParts) (lanes : List TableId) → AreFresh server race hub shards → map (λ (p : ShardParts). p.near.lane) shards ≡ lanes → All (IsNamed race lanes) shards
+pub named : (server : ServerIdentity) (race : RaceId) (hub : HubShown) (shards : List ShardParts) (lanes : List TableId)
+    → AreFresh server race hub shards
+    → map (λ (p : ShardParts). p.near.lane) shards ≡ lanes
+    → All (IsNamed race lanes) shards
 named server race hub shards lanes fresh is k d lt =
     let p = get_or shards k d in
     let seat = fresh.seats.1 k p.seat (at_map (λ (q : ShardParts). q.seat) shards k d lt) in
     let lane = fresh.lanes k d lt in
     let place : p.seat.part.shard - 1 ≡ k = ap (λ (s : _). s.shard - 1) seat.1 ∙ before k in
-    let near : slice_get lanes (p.seat.part.shard - 1) ≡ Some p.near.lane = ap (λ n. slice_get lanes n) place ∙ ap (λ l. slice_get l k) (sym is) ∙ get_map (λ (q : ShardParts). q.near.lane) shards k d lt in
+    let near : slice_get lanes (p.seat.part.shard - 1) ≡ Some p.near.lane = ap (λ n. slice_get lanes n) place
+    ∙ ap (λ l. slice_get l k) (sym is) ∙ get_map (λ (q : ShardParts). q.near.lane) shards k d lt in
     record {
       race_is = seat.0;
       part = seat.1 ∙ ap (λ (s : _). newcomer s.shard) (sym seat.1);

@@ -23,7 +23,8 @@ pub record IsFreshLane (near : Writer) (far : Reader) : Type 0 where
   pub hand : far.hand ≡ None
 
 -- all parts of a server that has done nothing
-pub record AreFresh (server : ServerIdentity) (race : RaceId) (hub : HubShown) (shards : List ShardParts) : Type 0 where
+pub record AreFresh (server : ServerIdentity) (race : RaceId) (hub : HubShown)
+    (shards : List ShardParts) : Type 0 where
   pub count : race.shards ≡ server.shards
   pub hub_race : hub.race ≡ race
   pub hub_part : hub.part ≡ fresh_hub

@@ -1,4 +1,5 @@
--- Of which shards a server on threads answers: of those from 1 to as many as it has, and of no other; and for which connections each does.
+-- Of which shards a server on threads answers: of those from 1 to as many as it has, and of no
+-- other; and for which connections each does.
 use Rattle.std.specs.Prelude.{◌≡◌, ℕ, Bool, true, false, Option, Some, None, is_some, nat_eq, Result, Ok, Err}
 use Rattle.claim_cells.specs.Seats.{RaceId}
 use Rattle.subj.specs.declared.failures.Failure.{Failure}
@@ -33,6 +34,15 @@ RefusesAt there (Session fault) = ⊥
 abbrev pub FailsAt : Bool → Failure NodeFault → Type 0
 FailsAt there (Refused fault) = RefusesAt there fault
 FailsAt there OutOfMemory = there ≡ true
+
+-- the same answer, as the server of a shard or of a hub gives it
+abbrev pub at_server : {X F : Type 0}
+    → (F → NodeFault)
+    → Result X (Failure F)
+    → Result X (Failure NodeFault)
+at_server fault_of (Ok x) = Ok x
+at_server fault_of (Err (Refused fault)) = Err (Refused (fault_of fault))
+at_server fault_of (Err OutOfMemory) = Err OutOfMemory
 
 -- what a call of a shard answers, where that is there, and for a connection of its own, or not
 abbrev pub AnswersAt : {X : Type 0} → Bool → Result X (Failure NodeFault) → Type 0

@@ -1,5 +1,6 @@
 //! What is kept in writing of what a hub and its sessions did.
 
+use node_law::NodeFault;
 use node_threads::Deltas;
 use route_session::SessionId;
 use route_values::{Numbered, RouteConnect, RouteInfo};
@@ -82,9 +83,11 @@ pub enum HubTold {
     Kept(Option<SessionId>),
     /// The end of a session: the peer that is cut with it.
     WasCut(Option<usize>),
+    /// Nothing was done, for this cause.
+    Refused(NodeFault),
 }
 
-/// A step of a hub and its sessions: what they were asked, and what they answered. (Profile.)
+/// A step of a hub and its sessions, or a refusal: what they were asked, and what they answered. (Profile.)
 #[derive(Drop)]
 pub struct HubEntry {
     pub event: HubEvent,

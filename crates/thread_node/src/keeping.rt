@@ -1,39 +1,41 @@
 //! What is written down of the calls under a lock.
 
-ghost use Rattle.std.specs.Prelude.{◌≡◌, ◌∷◌, List, [], IfSome, length, option_to_list};
+ghost use Rattle.std.specs.Prelude.{◌≡◌, List, IfSome};
 ghost use Rattle.subj.specs.declared.keys.Delta.{Delta};
-ghost use Rattle.node_threads.specs.Tapes.{Grows, entry, told_of};
 ghost use Rattle.node_threads.specs.declared.shard_entries.ShardEvent.{ShardEvent};
-ghost use Rattle.node_threads.specs.declared.shard_entries.ShardEvent.TheVariants.{Collect, Reply, Subscribe, Unsubscribe};
-ghost use Rattle.node_threads.specs.declared.shard_entries.ShardTold.TheVariants.{Work};
-ghost use Rattle.thread_node.specs.HubTapes.{hub_entry, of_received};
+ghost use Rattle.node_threads.specs.declared.shard_entries.ShardEvent.TheVariants.{Reply, Subscribe, Unsubscribe};
+ghost use Rattle.thread_node.specs.Told.{GivenNotes, HubNotes, ShardNotes};
 ghost use Rattle.thread_node.specs.declared.hub_entries.HubEvent.{HubEvent};
 ghost use Rattle.thread_node.specs.declared.hub_entries.HubEvent.TheVariants.{Collect as HubCollect, Publish, Receive};
-ghost use Rattle.shard_core.specs.Answers.{answer_of};
 
 use crate::hub_entries::{HubEntry, HubEvent, HubTold};
 use client_frames::ReplyFrame;
-use node_parts::Received;
+use hub_core::{CollectResult, HubFault};
 use node_threads::{Deltas, ShardEntry, ShardEvent, ShardTold, Tape};
 use route_values::Numbered;
-use shard_core::Subscribed;
 use std::alloc::Global;
-use subj::{ConnId, Delta, Finished, Key, Pub, Sid, SubId};
+use subj::{ConnId, Delta, Failure, Finished, Key, Pub, Sid};
 
-/// Writes down a step of a shard. Where there is no copy of what it was asked, the tape is given up.
-pub(crate) fn note_shard(tape: &mut Tape<ShardEntry>, event: Option<ShardEvent>, told: ShardTold)
-    ensures { (e : ShardEvent) → IfSome event (λ x. x ≡ e) → Grows tape.old (entry e told ∷ []) tape.new }
+/// Writes down a step of a shard, or a refusal. Where there is no copy of what it was asked, the tape is given up.
+pub(crate) fn note_shard(
+    tape: &mut Tape<ShardEntry>,
+    event: Option<ShardEvent>,
+    told: Option<ShardTold>,
+)
+    ensures { (e : ShardEvent) → IfSome event (λ x. x ≡ e) → ShardNotes e told tape.old tape.new }
 {
+    let Some(told) = told else { return };
     match event {
         None => tape.give_up(),
         Some(event) => tape.note(ShardEntry { event, told }),
     }
 }
 
-/// Writes down a step of a hub. Where there is no copy of what it was asked, the tape is given up.
-pub(crate) fn note_hub(tape: &mut Tape<HubEntry>, event: Option<HubEvent>, told: HubTold)
-    ensures { (e : HubEvent) → IfSome event (λ x. x ≡ e) → Grows tape.old (hub_entry e told ∷ []) tape.new }
+/// Writes down a step of a hub, or a refusal. Where there is no copy of what it was asked, the tape is given up.
+pub(crate) fn note_hub(tape: &mut Tape<HubEntry>, event: Option<HubEvent>, told: Option<HubTold>)
+    ensures { (e : HubEvent) → IfSome event (λ x. x ≡ e) → HubNotes e told tape.old tape.new }
 {
+    let Some(told) = told else { return };
     match event {
         None => tape.give_up(),
         Some(event) => tape.note(HubEntry { event, told }),
@@ -161,10 +163,20 @@ pub(crate) fn copy_for<E: Drop>(tape: &Tape<E>, alloc: Global, deltas: &[Delta])
     Deltas::copy_of(alloc, deltas).ok()
 }
 
-/// Writes down that a shard handed these deltas to the hub. Where there is no copy of them, the tape is given up.
-pub(crate) fn note_collect(tape: &mut Tape<ShardEntry>, given: Option<Deltas>)
-    ensures { (deltas : List Delta) → IfSome given (λ x. x ≡ deltas) → Grows tape.old (entry (Collect deltas) Work ∷ []) tape.new }
+/// Writes down that a shard handed these deltas to the hub, where that took them. Where there is no copy of them, the
+/// tape is given up.
+pub(crate) fn note_given(
+    tape: &mut Tape<ShardEntry>,
+    given: Option<Deltas>,
+    done: &Result<CollectResult, Failure<HubFault>>,
+)
+    ensures { (deltas : List Delta)
+        → IfSome given (λ x. x ≡ deltas)
+        → GivenNotes done.now deltas tape.old tape.new }
 {
+    if done.is_err() {
+        return;
+    }
     match given {
         None => tape.give_up(),
         Some(deltas) => tape.note(ShardEntry {
@@ -174,57 +186,21 @@ pub(crate) fn note_collect(tape: &mut Tape<ShardEntry>, given: Option<Deltas>)
     }
 }
 
-/// Writes down that the hub was handed these deltas. Where there is no copy of them, the tape is given up.
+/// Writes down that the hub was handed these deltas, or refused them. Where there is no copy of them, the tape is
+/// given up.
 pub(crate) fn note_heard(
     tape: &mut Tape<HubEntry>,
     shard: u64,
     heard: Option<Deltas>,
-    told: HubTold,
+    told: Option<HubTold>,
 )
-    ensures { (deltas : List Delta) → IfSome heard (λ x. x ≡ deltas) → Grows tape.old (hub_entry (HubCollect shard deltas) told ∷ []) tape.new }
+    ensures { (deltas : List Delta)
+        → IfSome heard (λ x. x ≡ deltas)
+        → HubNotes (HubCollect shard deltas) told tape.old tape.new }
 {
-    match heard {
-        None => tape.give_up(),
-        Some(deltas) => tape.note(HubEntry {
-            event: HubEvent::Collect { shard, deltas },
-            told,
-        }),
-    }
-}
-
-/// How many there are.
-pub fn length_of<X>(list: &Vec<X>) -> usize
-    ensures { result ≡ length list.now.items }
-{
-    list.len()
-}
-
-/// How many there are, 0 or 1.
-pub fn count_of(ended: Option<SubId>) -> usize
-    ensures { result ≡ length (option_to_list ended) }
-{
-    match ended {
-        None => 0,
-        Some(_) => 1,
-    }
-}
-
-/// What a subscribe did.
-pub fn told_subscribed(done: Subscribed) -> ShardTold
-    ensures { result ≡ told_of (answer_of done) }
-{
-    match done {
-        Subscribed::New(sub) => ShardTold::Opened(sub),
-        Subscribed::Same => ShardTold::AlreadyOpen,
-    }
-}
-
-/// What a frame of a peer came to.
-pub fn told_received(received: &Received) -> HubTold
-    ensures { result ≡ of_received received.now }
-{
-    match received {
-        Received::Routed(turn) => HubTold::Routed(*turn),
-        Received::Heard(mark) => HubTold::Heard(*mark),
-    }
+    let event = match heard {
+        None => None,
+        Some(deltas) => Some(HubEvent::Collect { shard, deltas }),
+    };
+    note_hub(tape, event, told);
 }

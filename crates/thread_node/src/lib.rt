@@ -8,13 +8,14 @@
 //! let (hub, shards) = node.into_locked();
 //! ```
 //!
-//! In reading order: `parts` is what a server is made of, `locked_hub` and `locked_shard` what stands under its locks, `node` the server with
-//! its locks and its threads, `drains` how all of it drains, and `serving` the calls that the connections of a server make while a lock is held. What is written down
-//! under a lock is `keeping` and `hub_entries`.
+//! In reading order: `parts` is what a server is made of, `locked_hub` and `locked_shard` what stands under its
+//! locks, `node` the server with its locks and its threads, `drains` how all of it drains, and `serving` the calls
+//! that the connections of a server make while a lock is held. What is written down under a lock is `keeping` and
+//! `hub_entries`, and `told_calls` what is of an answer or a refusal.
 //!
-//! No call here tells a caller's pass, and none ends a server with a report: `thread_report` does, above the same locks. It
-//! takes what it needs from here: the place of a step on its tape (`steps_kept`), an answer in numbers, and at the end what stood
-//! under the locks (`into_locked`, and of each its state and its tape, `into_parts`).
+//! No call here tells a caller's pass, and none ends a server with a report: `thread_report` does, above the same
+//! locks. It takes what it needs from here: the place of an entry on its tape (`entries_kept`), an answer in numbers,
+//! and at the end what stood under the locks (`into_locked`, and of each its state and its tape, `into_parts`).
 #![tactic(auto)]
 
 mod drains;
@@ -25,10 +26,11 @@ mod locked_shard;
 mod node;
 mod parts;
 mod serving;
+mod told_calls;
 
 pub use drains::drain_shards;
 pub use hub_entries::{HubEntry, HubEvent, HubTold};
-pub use keeping::{copy_of_pub, count_of, length_of, told_received, told_subscribed};
+pub use keeping::copy_of_pub;
 pub use locked_hub::LockedHub;
 pub use locked_shard::LockedShard;
 pub use node::{
@@ -37,3 +39,9 @@ pub use node::{
 pub use node_threads::{Deltas, Gate, NodeName, Open, ShardEntry, ShardEvent, ShardTold, Turned};
 pub use parts::Parts;
 pub use serving::{HeldHub, HeldShard};
+pub use told_calls::{
+    told_accepted, told_attached, told_collected, told_connected, told_cut, told_detached,
+    told_dialed, told_drained, told_dropped, told_frames, told_headers, told_hub_drained,
+    told_info, told_issued, told_received, told_replied, told_shut, told_subscribed, told_taken,
+    told_unsubscribed,
+};

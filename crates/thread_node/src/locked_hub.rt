@@ -14,12 +14,13 @@ ghost use Rattle.node_parts.specs.Sides.{ByHub, BySessions, OfHub, OfSessions, n
 ghost use Rattle.node_threads.specs.AtHub.{Collects, Does, Publishes, Receives};
 ghost use Rattle.thread_node.specs.HubTapes.{IsHubTape};
 
-use crate::hub_entries::{HubEntry, HubEvent, HubTold};
-use crate::keeping::{
-    copy_for, length_of, note_collect, note_heard, note_hub, publish_event, receive_event,
-    told_received,
-};
+use crate::hub_entries::{HubEntry, HubEvent};
+use crate::keeping::{copy_for, note_given, note_heard, note_hub, publish_event, receive_event};
 use crate::locked_shard::LockedShard;
+use crate::told_calls::{
+    told_accepted, told_collected, told_connected, told_cut, told_dialed, told_frames,
+    told_hub_drained, told_info, told_issued, told_received,
+};
 use claim_cells::Cells;
 use hub_core::{CollectResult, HubFault};
 use node_parts::{Issued, Received};
@@ -34,8 +35,9 @@ use subj::{ConnId, Failure, Pub};
 
 /// What stands under the lock of the hub: its state, with the race, and its tape. (Profile.)
 ///
-/// Seen as the state. Whoever holds the lock may make many calls, one after the other. Each step that they make
-/// stands on the tape, where one is kept: the tape is all that the hub and the sessions ever did.
+/// Seen as the state. Whoever holds the lock may make many calls, one after the other. Each step that they make and
+/// each refusal stands on the tape, where one is kept: the tape is all that the hub and the sessions ever did, and
+/// what they refused between.
 #[derive(Drop)]
 pub struct LockedHub<N: NodeName> {
     state: HubState<N>,
@@ -66,7 +68,9 @@ impl<N: NodeName> LockedHub<N> {
         keep: bool,
     ) -> LockedHub<N>
         requires race { arc_value cells ≡ N.race }
-        requires fresh { (server : ServerIdentity) × (state.side ≡ new_side server) × (state.issued ≡ []) }
+        requires fresh { (server : ServerIdentity)
+            × (state.side ≡ new_side server)
+            × (state.issued ≡ []) }
         ensures { result ≡ state }
     {
         LockedHub {
@@ -84,29 +88,27 @@ impl<N: NodeName> LockedHub<N> {
         publication: &Pub,
         word: u64,
     ) -> Result<Issued, Failure<HubFault>>
-        ensures { Publishes N.race.shards self.old (publication_by conn publication.now word) result self.new }
+        ensures { Publishes N.race.shards self.old (publication_by conn publication.now word) result
+            self.new }
     {
-        let issued = self.state.publish(&self.cells, conn, publication, word)?;
+        let done = self.state.publish(&self.cells, conn, publication, word);
         let finished = self.state.finished();
         let event = publish_event(&self.tape, conn, publication, word, finished);
-        let told = HubTold::Issued {
-            turn: issued.turn,
-            frames: issued.frames,
-        };
+        let told = told_issued(&done);
         note_hub(&mut self.tape, event, told);
-        Ok(issued)
+        done
     }
 
     /// [`HubState::receive`]. [`LockedHub::push_jobs`] hands the job of a message to the shards.
     pub fn receive(&mut self, frame: &Numbered) -> Result<Received, Failure<HubFault>>
         ensures { Receives N.race.shards self.old frame.now result self.new }
     {
-        let received = self.state.receive(&self.cells, frame)?;
+        let done = self.state.receive(&self.cells, frame);
         let finished = self.state.finished();
         let event = receive_event(self.alloc, &self.tape, frame, finished);
-        let told = told_received(&received);
+        let told = told_received(&done);
         note_hub(&mut self.tape, event, told);
-        Ok(received)
+        done
     }
 
     /// [`HubState::push_jobs`]. May wait.
@@ -118,41 +120,42 @@ impl<N: NodeName> LockedHub<N> {
 
     /// [`HubState::dial`].
     pub fn dial(&mut self, peer: usize) -> Result<SessionId, Failure<SessionFault>>
-        ensures { IsAnswered (session_refusal self.old.side.server self.old.side.sessions (Dial peer)) (λ session. Does self.old (BySessions (Dial peer)) (OfSessions (Dialed session)) self.new) (self.new ≡ self.old) result }
+        ensures { IsAnswered
+            (session_refusal self.old.side.server self.old.side.sessions (Dial peer))
+            (λ session.
+            Does self.old (BySessions (Dial peer)) (OfSessions (Dialed session)) self.new)
+            (self.new ≡ self.old) result }
     {
-        let session = self.state.dial(peer)?;
-        note_hub(
-            &mut self.tape,
-            Some(HubEvent::Dial { peer }),
-            HubTold::Dialed(session),
-        );
-        Ok(session)
+        let done = self.state.dial(peer);
+        let told = told_dialed(&done);
+        note_hub(&mut self.tape, Some(HubEvent::Dial { peer }), told);
+        done
     }
 
     /// [`HubState::accept`].
     pub fn accept(&mut self) -> Result<(SessionId, RouteInfo), Failure<SessionFault>>
-        ensures { IsAnswered (session_refusal self.old.side.server self.old.side.sessions Accept) (λ given. Does self.old (BySessions Accept) (OfSessions (Accepted given.0 given.1)) self.new) (self.new ≡ self.old) result }
+        ensures { IsAnswered (session_refusal self.old.side.server self.old.side.sessions Accept)
+            (λ given.
+            Does self.old (BySessions Accept) (OfSessions (Accepted given.0 given.1)) self.new)
+            (self.new ≡ self.old) result }
     {
-        let given = self.state.accept()?;
-        note_hub(
-            &mut self.tape,
-            Some(HubEvent::Accept),
-            HubTold::Accepted(given.0),
-        );
-        Ok(given)
+        let done = self.state.accept();
+        let told = told_accepted(&done);
+        note_hub(&mut self.tape, Some(HubEvent::Accept), told);
+        done
     }
 
     /// [`HubState::cut`].
     pub fn cut(&mut self, session: SessionId) -> Result<Option<usize>, SessionFault>
-        ensures { IsDecided (session_refusal self.old.side.server self.old.side.sessions (Cut session)) (λ peer. Does self.old (BySessions (Cut session)) (OfSessions (WasCut peer)) self.new) (self.new ≡ self.old) result }
+        ensures { IsDecided
+            (session_refusal self.old.side.server self.old.side.sessions (Cut session))
+            (λ peer. Does self.old (BySessions (Cut session)) (OfSessions (WasCut peer)) self.new)
+            (self.new ≡ self.old) result }
     {
-        let peer = self.state.cut(session)?;
-        note_hub(
-            &mut self.tape,
-            Some(HubEvent::Cut { session }),
-            HubTold::WasCut(peer),
-        );
-        Ok(peer)
+        let done = self.state.cut(session);
+        let told = told_cut(&done);
+        note_hub(&mut self.tape, Some(HubEvent::Cut { session }), told);
+        done
     }
 
     /// [`HubState::info`].
@@ -161,19 +164,21 @@ impl<N: NodeName> LockedHub<N> {
         session: SessionId,
         info: &RouteInfo,
     ) -> Result<(Kept, RouteConnect), Failure<SessionFault>>
-        ensures { let e = OnInfo session info.now (seen_name self.old.side info.now.server_name) in IsAnswered (session_refusal self.old.side.server self.old.side.sessions e) (λ done. Does self.old (BySessions e) (OfSessions (KeptAfterInfo done.0.instead_of done.1)) self.new) (self.new ≡ self.old) result }
+        ensures { let e = OnInfo session info.now (seen_name self.old.side info.now.server_name) in
+            IsAnswered (session_refusal self.old.side.server self.old.side.sessions e)
+            (λ done.
+            Does self.old (BySessions e) (OfSessions (KeptAfterInfo done.0.instead_of done.1))
+            self.new)
+            (self.new ≡ self.old) result }
     {
-        let (kept, connect) = self.state.info(session, info)?;
+        let done = self.state.info(session, info);
         let event = HubEvent::Info {
             session,
             info: *info,
         };
-        note_hub(
-            &mut self.tape,
-            Some(event),
-            HubTold::KeptAfterInfo(kept.instead_of),
-        );
-        Ok((kept, connect))
+        let told = told_info(&done);
+        note_hub(&mut self.tape, Some(event), told);
+        done
     }
 
     /// [`HubState::connect`].
@@ -182,15 +187,20 @@ impl<N: NodeName> LockedHub<N> {
         session: SessionId,
         connect: &RouteConnect,
     ) -> Result<Kept, Failure<SessionFault>>
-        ensures { let e = OnConnect session connect.now (seen_name self.old.side connect.now.server_name) in IsAnswered (session_refusal self.old.side.server self.old.side.sessions e) (λ kept. Does self.old (BySessions e) (OfSessions (WasKept kept.instead_of)) self.new) (self.new ≡ self.old) result }
+        ensures { let e =
+            OnConnect session connect.now (seen_name self.old.side connect.now.server_name) in
+            IsAnswered (session_refusal self.old.side.server self.old.side.sessions e)
+            (λ kept. Does self.old (BySessions e) (OfSessions (WasKept kept.instead_of)) self.new)
+            (self.new ≡ self.old) result }
     {
-        let kept = self.state.connect(session, connect)?;
+        let done = self.state.connect(session, connect);
         let event = HubEvent::Connect {
             session,
             connect: *connect,
         };
-        note_hub(&mut self.tape, Some(event), HubTold::Kept(kept.instead_of));
-        Ok(kept)
+        let told = told_connected(&done);
+        note_hub(&mut self.tape, Some(event), told);
+        done
     }
 
     /// [`HubState::collect`], of the shard whose lock is held too.
@@ -203,30 +213,26 @@ impl<N: NodeName> LockedHub<N> {
         let number = shard.shard();
         let heard = copy_for(&self.tape, self.alloc, shard.deltas());
         let given = copy_for(&shard.tape, self.alloc, shard.deltas());
-        let told = match self.state.collect(&mut shard.state) {
-            Ok(told) => told,
-            Err(fault) => return Err(fault),
-        };
-        note_collect(&mut shard.tape, given);
-        let answer = HubTold::Collected {
-            changes: length_of(&told.changes),
-            cut: length_of(&told.cut),
-        };
-        note_heard(&mut self.tape, number, heard, answer);
-        Ok(told)
+        let done = self.state.collect(&mut shard.state);
+        let told = told_collected(&done);
+        note_heard(&mut self.tape, number, heard, told);
+        note_given(&mut shard.tape, given, &done);
+        done
     }
 
     /// [`HubState::drain`].
     pub fn drain(&mut self) -> Result<Vec<usize>, Failure<HubFault>>
-        ensures { IsAnswered (hub_refusal self.old.side.server self.old.side.hub Drain) (λ cut. Does self.old (ByHub Drain) (OfHub (Drained (drain_frames self.old.side.server self.old.side.hub) cut.items)) self.new) (self.new ≡ self.old) result }
+        ensures { IsAnswered (hub_refusal self.old.side.server self.old.side.hub Drain)
+            (λ cut.
+            Does self.old (ByHub Drain)
+            (OfHub (Drained (drain_frames self.old.side.server self.old.side.hub) cut.items))
+            self.new)
+            (self.new ≡ self.old) result }
     {
-        let cut = self.state.drain()?;
-        let answer = HubTold::Collected {
-            changes: 1,
-            cut: length_of(&cut),
-        };
-        note_hub(&mut self.tape, Some(HubEvent::Drain), answer);
-        Ok(cut)
+        let done = self.state.drain();
+        let told = told_hub_drained(&done);
+        note_hub(&mut self.tape, Some(HubEvent::Drain), told);
+        done
     }
 
     /// [`HubState::take_frames`].
@@ -235,20 +241,21 @@ impl<N: NodeName> LockedHub<N> {
         peer: usize,
         count: usize,
     ) -> Result<Vec<Numbered>, Failure<HubFault>>
-        ensures { IsAnswered (hub_refusal self.old.side.server self.old.side.hub (TakeFrom peer count)) (λ frames. Does self.old (ByHub (TakeFrom peer count)) (OfHub (Taken frames.items)) self.new) (self.new ≡ self.old) result }
+        ensures { IsAnswered
+            (hub_refusal self.old.side.server self.old.side.hub (TakeFrom peer count))
+            (λ frames.
+            Does self.old (ByHub (TakeFrom peer count)) (OfHub (Taken frames.items)) self.new)
+            (self.new ≡ self.old) result }
     {
-        let frames = self.state.take_frames(peer, count)?;
+        let done = self.state.take_frames(peer, count);
         let event = HubEvent::TakeFrames { peer, count };
-        note_hub(
-            &mut self.tape,
-            Some(event),
-            HubTold::Taken(length_of(&frames)),
-        );
-        Ok(frames)
+        let told = told_frames(&done);
+        note_hub(&mut self.tape, Some(event), told);
+        done
     }
 
-    /// How many steps stand on its tape, where one is kept: the next one's place, from 0.
-    pub fn steps_kept(&self) -> usize {
+    /// How many entries stand on its tape, where one is kept: the next one's place, from 0.
+    pub fn entries_kept(&self) -> usize {
         self.tape.len()
     }
 

@@ -11,13 +11,14 @@ ghost use Rattle.node_threads.specs.AtWork.{Does, TakesBytes, at_start};
 ghost use Rattle.node_threads.specs.Tapes.{IsTape};
 ghost use Rattle.node_threads.specs.Turns.{Drops, Turns};
 
-use crate::keeping::{
-    count_of, length_of, note_shard, reply_event, subscribe_event, told_subscribed,
-    unsubscribe_event,
+use crate::keeping::{note_shard, reply_event, subscribe_event, unsubscribe_event};
+use crate::told_calls::{
+    told_attached, told_bytes, told_detached, told_drained, told_headers, told_replied, told_shut,
+    told_subscribed, told_taken, told_unsubscribed,
 };
 use claim_cells::Cells;
 use client_frames::{ErrText, ReplyFrame};
-use node_threads::{Gate, NodeName, ShardEntry, ShardEvent, ShardState, ShardTold, Tape, Turned};
+use node_threads::{Gate, NodeName, ShardEntry, ShardEvent, ShardState, Tape, Turned};
 use outbox::Entry;
 use shard_core::{Closed, DirtyConns, ShardFault, Subscribed};
 use std::alloc::Global;
@@ -28,8 +29,9 @@ use subj::{ConnId, Delta, Failure, Key, Sid, SubId, Turn};
 
 /// What stands under the lock of a shard: its state, with the race, and its tape. (Profile.)
 ///
-/// Seen as the state. Whoever holds the lock may make many calls, one after the other. Each step that they make
-/// stands on the tape, where one is kept: the tape is all that the shard ever did.
+/// Seen as the state. Whoever holds the lock may make many calls, one after the other. Each step that they make and
+/// each refusal stands on the tape, where one is kept: the tape is all that the shard ever did, and what it refused
+/// between.
 #[derive(Drop)]
 pub struct LockedShard<T: SubTable, N: NodeName> {
     pub(crate) state: ShardState<T, N>,
@@ -85,15 +87,13 @@ impl<T: SubTable, N: NodeName> LockedShard<T, N> {
 
     /// [`ShardState::attach`].
     pub fn attach(&mut self) -> Result<ConnId, Failure<ShardFault>>
-        ensures { IsAnswered (shard_refusal self.old.state Attach) (λ conn. Does self.old Attach (Attached conn) self.new) (self.new ≡ self.old) result }
+        ensures { IsAnswered (shard_refusal self.old.state Attach)
+            (λ conn. Does self.old Attach (Attached conn) self.new) (self.new ≡ self.old) result }
     {
-        let conn = self.state.attach()?;
-        note_shard(
-            &mut self.tape,
-            Some(ShardEvent::Attach),
-            ShardTold::Attached(conn),
-        );
-        Ok(conn)
+        let done = self.state.attach();
+        let told = told_attached(&done);
+        note_shard(&mut self.tape, Some(ShardEvent::Attach), told);
+        done
     }
 
     /// [`ShardState::subscribe`].
@@ -103,12 +103,15 @@ impl<T: SubTable, N: NodeName> LockedShard<T, N> {
         key: Key,
         sid: Sid,
     ) -> Result<Subscribed, Failure<ShardFault>>
-        ensures { IsAnswered (shard_refusal self.old.state (Subscribe conn key sid)) (λ done. Does self.old (Subscribe conn key sid) (answer_of done) self.new) (self.new ≡ self.old) result }
+        ensures { IsAnswered (shard_refusal self.old.state (Subscribe conn key sid))
+            (λ done. Does self.old (Subscribe conn key sid) (answer_of done) self.new)
+            (self.new ≡ self.old) result }
     {
         let event = subscribe_event(self.alloc, &self.tape, conn, &key, &sid);
-        let done = self.state.subscribe(conn, key, sid)?;
-        note_shard(&mut self.tape, event, told_subscribed(done));
-        Ok(done)
+        let done = self.state.subscribe(conn, key, sid);
+        let told = told_subscribed(&done);
+        note_shard(&mut self.tape, event, told);
+        done
     }
 
     /// [`ShardState::unsubscribe`].
@@ -118,91 +121,94 @@ impl<T: SubTable, N: NodeName> LockedShard<T, N> {
         sid: &Sid,
         max: Option<u64>,
     ) -> Result<Option<SubId>, ShardFault>
-        ensures { IsDecided (shard_refusal self.old.state (Unsubscribe conn sid.now max)) (λ ended. Does self.old (Unsubscribe conn sid.now max) (Unsubscribed (option_to_list ended)) self.new) (self.new ≡ self.old) result }
+        ensures { IsDecided (shard_refusal self.old.state (Unsubscribe conn sid.now max))
+            (λ ended.
+            Does self.old (Unsubscribe conn sid.now max) (Unsubscribed (option_to_list ended))
+            self.new)
+            (self.new ≡ self.old) result }
     {
-        let ended = self.state.unsubscribe(conn, sid, max)?;
+        let done = self.state.unsubscribe(conn, sid, max);
         let event = unsubscribe_event(self.alloc, &self.tape, conn, sid, max);
-        note_shard(
-            &mut self.tape,
-            event,
-            ShardTold::Unsubscribed(count_of(ended)),
-        );
-        Ok(ended)
+        let told = told_unsubscribed(&done);
+        note_shard(&mut self.tape, event, told);
+        done
     }
 
     /// [`ShardState::reply`].
     pub fn reply(&mut self, conn: ConnId, frame: &ReplyFrame) -> Result<Closed, Failure<ShardFault>>
-        ensures { IsAnswered (shard_refusal self.old.state (Reply conn frame.now)) (λ closed. Does self.old (Reply conn frame.now) (Replied closed.shut closed.ended.items) self.new) (self.new ≡ self.old) result }
+        ensures { IsAnswered (shard_refusal self.old.state (Reply conn frame.now))
+            (λ closed.
+            Does self.old (Reply conn frame.now) (Replied closed.shut closed.ended.items) self.new)
+            (self.new ≡ self.old) result }
     {
-        let closed = self.state.reply(conn, frame)?;
+        let done = self.state.reply(conn, frame);
         let event = reply_event(&self.tape, conn, frame);
-        let told = ShardTold::Replied {
-            shut: closed.shut,
-            ended: length_of(&closed.ended),
-        };
+        let told = told_replied(&done);
         note_shard(&mut self.tape, event, told);
-        Ok(closed)
+        done
     }
 
     /// [`ShardState::set_headers`].
     pub fn set_headers(&mut self, conn: ConnId, on: bool) -> Result<(), ShardFault>
-        ensures { IsDecided (shard_refusal self.old.state (SetHeaders conn on)) (λ _. Does self.old (SetHeaders conn on) HeadersSet self.new) (self.new ≡ self.old) result }
+        ensures { IsDecided (shard_refusal self.old.state (SetHeaders conn on))
+            (λ _. Does self.old (SetHeaders conn on) HeadersSet self.new) (self.new ≡ self.old)
+            result }
     {
-        self.state.set_headers(conn, on)?;
+        let done = self.state.set_headers(conn, on);
         let event = ShardEvent::SetHeaders { conn, on };
-        note_shard(&mut self.tape, Some(event), ShardTold::HeadersSet);
-        Ok(())
+        let told = told_headers(&done);
+        note_shard(&mut self.tape, Some(event), told);
+        done
     }
 
     /// [`ShardState::drain`].
     pub fn drain(&mut self) -> Result<(), ShardFault>
-        ensures { IsDecided (shard_refusal self.old.state Drain) (λ _. Does self.old Drain Drains self.new) (self.new ≡ self.old) result }
+        ensures { IsDecided (shard_refusal self.old.state Drain)
+            (λ _. Does self.old Drain Drains self.new) (self.new ≡ self.old) result }
     {
-        self.state.drain()?;
-        note_shard(&mut self.tape, Some(ShardEvent::Drain), ShardTold::Drained);
-        Ok(())
+        let done = self.state.drain();
+        let told = told_drained(&done);
+        note_shard(&mut self.tape, Some(ShardEvent::Drain), told);
+        done
     }
 
     /// [`ShardState::shut`].
     pub fn shut(&mut self, conn: ConnId, text: ErrText) -> Result<Vec<SubId>, Failure<ShardFault>>
-        ensures { IsAnswered (shard_refusal self.old.state (Shut conn text)) (λ ended. Does self.old (Shut conn text) (WasShut ended.items) self.new) (self.new ≡ self.old) result }
+        ensures { IsAnswered (shard_refusal self.old.state (Shut conn text))
+            (λ ended. Does self.old (Shut conn text) (WasShut ended.items) self.new)
+            (self.new ≡ self.old) result }
     {
-        let ended = self.state.shut(conn, text)?;
+        let done = self.state.shut(conn, text);
         let event = ShardEvent::Shut { conn, text };
-        note_shard(
-            &mut self.tape,
-            Some(event),
-            ShardTold::WasShut(length_of(&ended)),
-        );
-        Ok(ended)
+        let told = told_shut(&done);
+        note_shard(&mut self.tape, Some(event), told);
+        done
     }
 
     /// [`ShardState::detach`].
     pub fn detach(&mut self, conn: ConnId) -> Result<Vec<SubId>, Failure<ShardFault>>
-        ensures { IsAnswered (shard_refusal self.old.state (Detach conn)) (λ ended. Does self.old (Detach conn) (Detached ended.items) self.new) (self.new ≡ self.old) result }
+        ensures { IsAnswered (shard_refusal self.old.state (Detach conn))
+            (λ ended. Does self.old (Detach conn) (Detached ended.items) self.new)
+            (self.new ≡ self.old) result }
     {
-        let ended = self.state.detach(conn)?;
+        let done = self.state.detach(conn);
         let event = ShardEvent::Detach { conn };
-        note_shard(
-            &mut self.tape,
-            Some(event),
-            ShardTold::Detached(length_of(&ended)),
-        );
-        Ok(ended)
+        let told = told_detached(&done);
+        note_shard(&mut self.tape, Some(event), told);
+        done
     }
 
     /// [`ShardState::take`].
     pub fn take(&mut self, conn: ConnId, count: usize) -> Result<Vec<Entry>, Failure<ShardFault>>
-        ensures { IsAnswered (shard_refusal self.old.state (Take conn count)) (λ entries. Does self.old (Take conn count) (Taken entries.items) self.new) (self.new ≡ self.old) result }
+        ensures { IsAnswered (shard_refusal self.old.state (Take conn count))
+            (λ entries. Does self.old (Take conn count) (Taken entries.items) self.new)
+            (self.new ≡ self.old) result }
     {
-        let entries = self.state.take(conn, count)?;
+        let done = self.state.take(conn, count);
         let event = ShardEvent::Take { conn, count };
-        note_shard(
-            &mut self.tape,
-            Some(event),
-            ShardTold::Taken(length_of(&entries)),
-        );
-        Ok(entries)
+        let told = told_taken(&done);
+        note_shard(&mut self.tape, Some(event), told);
+        done
     }
 
     /// [`ShardState::take_bytes`].
@@ -212,12 +218,15 @@ impl<T: SubTable, N: NodeName> LockedShard<T, N> {
         count: usize,
         out: &mut Vec<u8>,
     ) -> Result<usize, Failure<ShardFault>>
-        ensures { IsAnswered (shard_refusal self.old.state (Take conn count)) (λ taken. TakesBytes self.old conn count taken out.old.items out.new.items self.new) ((self.new ≡ self.old) × (out.new.items ≡ out.old.items)) result }
+        ensures { IsAnswered (shard_refusal self.old.state (Take conn count))
+            (λ taken. TakesBytes self.old conn count taken out.old.items out.new.items self.new)
+            ((self.new ≡ self.old) × (out.new.items ≡ out.old.items)) result }
     {
-        let taken = self.state.take_bytes(conn, count, out)?;
+        let done = self.state.take_bytes(conn, count, out);
         let event = ShardEvent::Take { conn, count };
-        note_shard(&mut self.tape, Some(event), ShardTold::Taken(taken));
-        Ok(taken)
+        let told = told_bytes(&done);
+        note_shard(&mut self.tape, Some(event), told);
+        done
     }
 
     /// [`ShardState::is_open`].
@@ -260,8 +269,8 @@ impl<T: SubTable, N: NodeName> LockedShard<T, N> {
         self.state.drop_job(rt, &self.cells, &mut self.tape)
     }
 
-    /// How many steps stand on its tape, where one is kept: the next one's place, from 0.
-    pub fn steps_kept(&self) -> usize {
+    /// How many entries stand on its tape, where one is kept: the next one's place, from 0.
+    pub fn entries_kept(&self) -> usize {
         self.tape.len()
     }
 

@@ -6,7 +6,8 @@ ghost use Rattle.std.specs.Arc.{arc_value};
 ghost use Rattle.subj.specs.declared.limits.TheConstants.{MAX_SHARDS};
 ghost use Rattle.thread_node.specs.Parts.{IsNamed};
 ghost use Rattle.claim_cells.specs.Rule.{fresh_hub};
-ghost use Rattle.thread_node.specs.Refusing.{AnswersAt, DecidesAt, has_conn, has_shard, is_own};
+ghost use Rattle.thread_node.specs.Refusing.{AnswersAt, DecidesAt, at_server, has_conn, has_shard, is_own};
+ghost use Rattle.node_law.specs.declared.faults.NodeFault.TheVariants.{Hub, Shard};
 
 use crate::drains::drain_shards;
 use crate::locked_hub::LockedHub;
@@ -89,7 +90,8 @@ fn add_shard<T: SubTable, N: NodeName>(
     requires parts { IsNamed N.race N.lanes parts }
     ensures line { OnOk result (vec_len lines.new ≡ vec_len lines.old + 1) }
     ensures shard { OnOk result (vec_len shards.new ≡ vec_len shards.old + 1) }
-    ensures fresh { OnOk result (All (λ line. line.pushed ≡ []) lines.old.items → All (λ line. line.pushed ≡ []) lines.new.items) }
+    ensures fresh { OnOk result (All (λ line. line.pushed ≡ []) lines.old.items
+        → All (λ line. line.pushed ≡ []) lines.new.items) }
 {
     let (line, shard) = locked_shard(alloc, cells, count, keep, parts)?;
     lines.push(line)?;
@@ -111,7 +113,8 @@ fn locked_shards<T: SubTable, N: NodeName>(
     requires race { (arc_value cells.now ≡ N.race) × (count ≡ N.race.shards) }
     requires few { count ≤ MAX_SHARDS }
     requires parts { All (IsNamed N.race N.lanes) parts.items }
-    ensures lines { IfOk result (λ made. (vec_len made.0 ≡ vec_len parts) × All (λ line. line.pushed ≡ []) made.0.items) }
+    ensures lines { IfOk result (λ made.
+        (vec_len made.0 ≡ vec_len parts) × All (λ line. line.pushed ≡ []) made.0.items) }
     ensures shards { IfOk result (λ made. vec_len made.1 ≡ vec_len parts) }
 {
     let mut lines = Vec::new(alloc);
@@ -184,7 +187,8 @@ pub const NO_SHARD: Failure<NodeFault> = Failure::Refused(NodeFault::NoShard);
 
 /// What a call of a shard came to, as its server tells it.
 pub fn answered_by_shard<X>(done: Result<X, Failure<ShardFault>>) -> Result<X, Failure<NodeFault>>
-    ensures { AnswersAt true result }
+    ensures same { result ≡ at_server (λ fault. Shard fault) done }
+    ensures answers { AnswersAt true result }
 {
     match done {
         Ok(done) => Ok(done),
@@ -205,7 +209,8 @@ pub fn decided_by_shard<X>(done: Result<X, ShardFault>) -> Result<X, NodeFault>
 
 /// What a call of the hub came to, as its server tells it.
 pub fn answered_by_hub<X>(done: Result<X, Failure<HubFault>>) -> Result<X, Failure<NodeFault>>
-    ensures { AnswersAt true result }
+    ensures same { result ≡ at_server (λ fault. Hub fault) done }
+    ensures answers { AnswersAt true result }
 {
     match done {
         Ok(done) => Ok(done),
@@ -214,10 +219,10 @@ pub fn answered_by_hub<X>(done: Result<X, Failure<HubFault>>) -> Result<X, Failu
     }
 }
 
-/// The number of the turn that was worked.
+/// The number of the turn that was worked, or of the last of several.
 fn worked_turn(turned: Turned) -> Option<u64> {
     match turned {
-        Turned::Worked(turn) => Some(turn.get()),
+        Turned::Worked(turn) | Turned::WorkedRun { last: turn, .. } => Some(turn.get()),
         Turned::Idle | Turned::Short => None,
     }
 }
@@ -646,7 +651,7 @@ impl<T: SubTable, N: NodeName> ThreadNode<T, N> {
                 return;
             }
             match self.turn(rt, shard, gate) {
-                Some(Turned::Worked(_)) => {}
+                Some(Turned::Worked(_) | Turned::WorkedRun { .. }) => {}
                 Some(Turned::Idle) => parker.park(rt),
                 Some(Turned::Short) => thread::yield_now(),
                 None => return,

@@ -39,7 +39,12 @@ impl Model for Parts {
 
     ghost Value = { Given };
 
-    ghost view = { λ p. record { server = p.server; race = p.cells; lanes = map (λ s. s.near.lane) p.shards.items; keep = p.keep } };
+    ghost view = { λ p. record {
+      server = p.server;
+      race = p.cells;
+      lanes = map (λ s. s.near.lane) p.shards.items;
+      keep = p.keep;
+    } };
 
     ghost invariant = { λ p. AreFresh p.server p.cells p.hub p.shards.items };
 }
@@ -54,7 +59,9 @@ fn shard_part(alloc: Global, seat: ShardSeat) -> Result<ShardParts, AllocError>
 
 /// A seat and a new lane for each shard, in their order.
 fn shard_parts(alloc: Global, seats: Vec<ShardSeat>) -> Result<Vec<ShardParts>, AllocError>
-    ensures { IfOk result (λ shards. (map (λ p. p.seat) shards.items ≡ seats.items) × All (λ p. IsFreshLane p.near p.far) shards.items) }
+    ensures { IfOk result (λ shards.
+        (map (λ p. p.seat) shards.items ≡ seats.items)
+        × All (λ p. IsFreshLane p.near p.far) shards.items) }
 {
     let mut shards = Vec::with_capacity(alloc, seats.len())?;
     for seat in seats {

@@ -1,8 +1,9 @@
 //! The calls that the connections of a server make of it: of its shards and its hub, each while its lock is held.
 
-ghost use Rattle.std.specs.Prelude.{◌≡◌, ⊤, IfOk};
+ghost use Rattle.std.specs.Prelude.{◌≡◌, ◌⊎◌, None, Ok, IfOk, IfSome, IfNone};
 ghost use Rattle.std.specs.Sync.Mutex.{mutex_guard_value};
-ghost use Rattle.thread_node.specs.Held.{came_to, was_decided, was_replied, was_published, not_attached, MadeByHub, MadeByShard};
+ghost use Rattle.thread_node.specs.Held.{came_to, was_decided, was_replied, was_published, was_received, was_turned, not_attached};
+ghost use Rattle.thread_node.specs.Held.{MadeByHub, MadeByShard, RoutedByHub, WorksNext, Takes, Lacks, CollectsAll, WasCollected};
 
 use crate::locked_hub::LockedHub;
 use crate::locked_shard::LockedShard;
@@ -13,7 +14,7 @@ use client_frames::{ErrText, ReplyFrame};
 use client_refusals::{refusal_of_hub, refusal_of_shard};
 use hub_core::{CollectResult, HubFault};
 use node_law::NodeFault;
-use node_parts::Issued;
+use node_parts::{Issued, Received};
 use node_threads::{NodeName, Open, Turned};
 use route_session::{SessionFault, SessionId};
 use route_values::{Numbered, RouteConnect, RouteInfo};
@@ -89,11 +90,35 @@ fn copies_of(alloc: Global, key: &Key, sid: &Sid) -> Result<(Key, Sid), AllocErr
     Ok((key, sid))
 }
 
+/// What a turn of a shard came to.
+fn turned_so(turned: Turned) -> NextJob
+    ensures { result ≡ was_turned turned }
+{
+    match turned {
+        Turned::Worked(_) => NextJob::Worked(1),
+        Turned::WorkedRun { jobs, .. } => NextJob::Worked(jobs),
+        Turned::Idle => NextJob::Nothing,
+        Turned::Short => NextJob::Short,
+    }
+}
+
+/// What a frame of another server came to.
+fn received_so(done: Result<Received, Failure<HubFault>>) -> Result<(), Failure<HubFault>>
+    ensures { result ≡ was_received done }
+{
+    match done {
+        Ok(_) => Ok(()),
+        Err(fault) => Err(fault),
+    }
+}
+
 /// Has the hub collect the deltas of the shard: what it told the peers, or None where there are none, or it is refused.
 fn collected<T: SubTable, N: NodeName>(
     hub: &mut LockedHub<N>,
     shard: &mut LockedShard<T, N>,
-) -> Result<Option<CollectResult>, AllocError> {
+) -> Result<Option<CollectResult>, AllocError>
+    ensures { CollectsAll hub.old shard.old result hub.new shard.new }
+{
     if shard.deltas().is_empty() {
         return Ok(None);
     }
@@ -127,7 +152,8 @@ fn refused(fault: Failure<ShardFault>) -> Failure<Refusal>
 
 // Each call is what the contract of `LockedShard` says of it, of the shard under the lock.
 impl<'n, T: SubTable, N: NodeName> ClientCalls for HeldShard<'n, T, N> {
-    ghost made = { λ before called after. MadeByShard (mutex_guard_value before.guard) called (mutex_guard_value after.guard) };
+    ghost made = { λ before called after.
+        MadeByShard (mutex_guard_value before.guard) called (mutex_guard_value after.guard) };
 
     fn attach(&mut self) -> Result<ConnId, Failure<Refusal>> {
         let shard = &mut *self.guard;
@@ -184,17 +210,19 @@ impl<'n, T: SubTable, N: NodeName> ClientCalls for HeldShard<'n, T, N> {
 impl<'n, T: SubTable, N: NodeName> ShardCalls for HeldShard<'n, T, N> {
     ghost number = { λ held. (mutex_guard_value held.guard).part.shard };
 
+    ghost worked = { λ before came after.
+        WorksNext (mutex_guard_value before.guard) came (mutex_guard_value after.guard) };
+
+    ghost takes = { λ before conn count bytes after.
+        Takes (mutex_guard_value before.guard) conn count bytes (mutex_guard_value after.guard) };
+
     fn shard(&self) -> u64 {
         self.guard.shard()
     }
 
     fn work_next<R: Wait>(&mut self, rt: &R) -> NextJob {
         let shard = &mut *self.guard;
-        match shard.turn(rt, &Open) {
-            Turned::Worked(_) => NextJob::Worked,
-            Turned::Idle => NextJob::Nothing,
-            Turned::Short => NextJob::Short,
-        }
+        turned_so(shard.turn(rt, &Open))
     }
 
     fn is_urgent(&self) -> bool {
@@ -227,9 +255,16 @@ impl<'n, T: SubTable, N: NodeName> ShardCalls for HeldShard<'n, T, N> {
 
 // A publication is what the contract of `LockedHub` says of it, of the hub under the lock; the lanes of the shards are not seen.
 impl<'n, N: NodeName> HubCalls for HeldHub<'n, N> {
-    ghost published = { λ before conn publication word came after. MadeByHub N.race.shards (mutex_guard_value before.guard) conn publication word came (mutex_guard_value after.guard) };
+    ghost published = { λ before conn publication word came after.
+        MadeByHub N.race.shards (mutex_guard_value before.guard) conn publication word came
+        (mutex_guard_value after.guard) };
 
-    ghost pushed = { λ before after. mutex_guard_value after.guard ≡ mutex_guard_value before.guard };
+    ghost pushed = { λ before after.
+        mutex_guard_value after.guard ≡ mutex_guard_value before.guard };
+
+    ghost routed = { λ before call after.
+        RoutedByHub N.race.shards (mutex_guard_value before.guard) call
+        (mutex_guard_value after.guard) };
 
     fn publish(&mut self, conn: ConnId, publication: &Pub, word: u64) -> Outcome {
         let hub = &mut *self.guard;
@@ -238,10 +273,7 @@ impl<'n, N: NodeName> HubCalls for HeldHub<'n, N> {
 
     fn receive(&mut self, frame: &Numbered) -> Result<(), Failure<HubFault>> {
         let hub = &mut *self.guard;
-        match hub.receive(frame) {
-            Ok(_) => Ok(()),
-            Err(fault) => Err(fault),
-        }
+        received_so(hub.receive(frame))
     }
 
     fn push_jobs<R: Wait>(&mut self, rt: &R) {
@@ -298,13 +330,39 @@ impl<'n, N: NodeName> HubCalls for HeldHub<'n, N> {
     }
 }
 
-// No clause says which shard stands under which lock: each hold asks the shard that it finds there.
+/// Takes the lock of the shard of this number, from 1. None where there is no such shard: no clause says which shard stands under which lock, so
+/// each hold asks the one that it finds there. May wait.
+fn own_section<'n, T: SubTable, N: NodeName, R: Wait>(
+    node: &'n ThreadNode<T, N>,
+    rt: &R,
+    number: u64,
+) -> Option<ShardSection<'n, T, N>>
+    ensures own { IfSome result (λ guard. (mutex_guard_value guard).part.shard ≡ number) }
+    ensures none { IfNone result (Lacks N.race number) }
+{
+    match node.shard(rt, number) {
+        None => None,
+        Some(guard) => {
+            if guard.shard() == number {
+                Some(guard)
+            } else {
+                None
+            }
+        }
+    }
+}
+
 impl<'n, T: SubTable, N: NodeName> ServerCalls for &'n ThreadNode<T, N> {
     type Shard = HeldShard<'n, T, N>;
 
     type Hub = HeldHub<'n, N>;
 
-    ghost lacks = { λ _ _. ⊤ };
+    ghost count = { λ _. N.race.shards };
+
+    ghost lacks = { λ _ number. Lacks N.race number };
+
+    ghost collected = { λ _ number came.
+        WasCollected number came ⊎ (Lacks N.race number × (came ≡ Ok None)) };
 
     fn shards(&self) -> u64 {
         let node: &'n ThreadNode<T, N> = *self;
@@ -313,11 +371,9 @@ impl<'n, T: SubTable, N: NodeName> ServerCalls for &'n ThreadNode<T, N> {
 
     fn shard<R: Wait>(&self, rt: &R, number: u64) -> Option<HeldShard<'n, T, N>> {
         let node: &'n ThreadNode<T, N> = *self;
-        let guard = node.shard(rt, number)?;
-        if guard.shard() == number {
-            Some(HeldShard { guard })
-        } else {
-            None
+        match own_section(node, rt, number) {
+            None => None,
+            Some(guard) => Some(HeldShard { guard }),
         }
     }
 
@@ -331,10 +387,10 @@ impl<'n, T: SubTable, N: NodeName> ServerCalls for &'n ThreadNode<T, N> {
     fn collect<R: Wait>(&self, rt: &R, shard: u64) -> Result<Option<CollectResult>, AllocError> {
         let node: &'n ThreadNode<T, N> = *self;
         let mut hub_guard = node.hub(rt);
-        let Some(mut shard_guard) = node.shard(rt, shard) else {
-            return Ok(None);
-        };
-        collected(&mut hub_guard, &mut shard_guard)
+        match own_section(node, rt, shard) {
+            None => Ok(None),
+            Some(mut shard_guard) => collected(&mut hub_guard, &mut shard_guard),
+        }
     }
 
     fn drain<R: Wait>(&self, rt: &R) -> Result<Option<Vec<usize>>, AllocError> {

@@ -4,29 +4,47 @@ use Rattle.node_threads.specs.declared.shard_entries.ShardEntry.{ShardEntry}
 use Rattle.thread_node.specs.declared.hub_entries.HubEntry.{HubEntry}
 use Rattle.thread_report.specs.Owed.{call_of_hub, owed_by_hub, owed_by_shard, owed_by_shards, owed_one}
 
-pub owed_by_hub_more : (from n i : ℕ) (xs : List HubEntry) (d : HubEntry) → i < length xs → n ≡ from + i → owed_by_hub from (take (suc i) xs) ≡ owed_by_hub from (take i xs) ++ call_of_hub n (get_or xs i d) ∷ []
+pub owed_by_hub_more : (from n i : ℕ) (xs : List HubEntry) (d : HubEntry)
+    → i < length xs
+    → n ≡ from + i
+    → owed_by_hub from (take (suc i) xs) ≡ owed_by_hub from (take i xs) ++ call_of_hub n (get_or xs i d) ∷ []
 owed_by_hub_more from n i [] d lt is = absurd (omega arith)
 owed_by_hub_more from n zero (x ∷ xs) d lt is = let e : n ≡ from = omega arith in ap (λ k. call_of_hub k x ∷ []) (sym e)
-owed_by_hub_more from n (suc i) (x ∷ xs) d lt is = ap (λ l. call_of_hub from x ∷ l) (owed_by_hub_more (suc from) n i xs d (omega arith) (omega arith))
+owed_by_hub_more from n (suc i) (x ∷ xs) d lt is =
+    ap (λ l. call_of_hub from x ∷ l) (owed_by_hub_more (suc from) n i xs d (omega arith) (omega arith))
 
-pub owed_by_shard_more : (shard from n i : ℕ) (xs : List ShardEntry) (d : ShardEntry) → i < length xs → n ≡ from + i → owed_by_shard shard from (take (suc i) xs) ≡ owed_by_shard shard from (take i xs) ++ owed_one shard n (get_or xs i d)
+pub owed_by_shard_more : (shard from n i : ℕ) (xs : List ShardEntry) (d : ShardEntry)
+    → i < length xs
+    → n ≡ from + i
+    → owed_by_shard shard from (take (suc i) xs)
+    ≡ owed_by_shard shard from (take i xs) ++ owed_one shard n (get_or xs i d)
 owed_by_shard_more shard from n i [] d lt is = absurd (omega arith)
-owed_by_shard_more shard from n zero (x ∷ xs) d lt is = let e : n ≡ from = omega arith in append-nil (owed_one shard from x) ∙ ap (λ k. owed_one shard k x) (sym e)
+owed_by_shard_more shard from n zero (x ∷ xs) d lt is =
+    let e : n ≡ from = omega arith in append-nil (owed_one shard from x) ∙ ap (λ k. owed_one shard k x) (sym e)
 owed_by_shard_more shard from n (suc i) (x ∷ xs) d lt is =
     ap (λ l. owed_one shard from x ++ l) (owed_by_shard_more shard (suc from) n i xs d (omega arith) (omega arith))
-    ∙ sym (append_assoc (owed_one shard from x) (owed_by_shard shard (suc from) (take i xs)) (owed_one shard n (get_or xs i d)))
+    ∙ sym (append_assoc (owed_one shard from x) (owed_by_shard shard (suc from) (take i xs))
+    (owed_one shard n (get_or xs i d)))
 
 module _ {A : Type 0} (f : A → List ShardEntry) where
-  pub owed_by_shards_more : (from n i : ℕ) (xs : List A) (d : A) → i < length xs → n ≡ from + i
-      → owed_by_shards from (map f (take (suc i) xs)) ≡ owed_by_shards from (map f (take i xs)) ++ owed_by_shard n 0 (f (get_or xs i d))
+  pub owed_by_shards_more : (from n i : ℕ) (xs : List A) (d : A)
+      → i < length xs
+      → n ≡ from + i
+      → owed_by_shards from (map f (take (suc i) xs))
+      ≡ owed_by_shards from (map f (take i xs)) ++ owed_by_shard n 0 (f (get_or xs i d))
   owed_by_shards_more from n i [] d lt is = absurd (omega arith)
-  owed_by_shards_more from n zero (x ∷ xs) d lt is = let e : n ≡ from = omega arith in append-nil (owed_by_shard from 0 (f x)) ∙ ap (λ k. owed_by_shard k 0 (f x)) (sym e)
+  owed_by_shards_more from n zero (x ∷ xs) d lt is =
+      let e : n ≡ from = omega arith in
+      append-nil (owed_by_shard from 0 (f x)) ∙ ap (λ k. owed_by_shard k 0 (f x)) (sym e)
   owed_by_shards_more from n (suc i) (x ∷ xs) d lt is =
       ap (λ l. owed_by_shard from 0 (f x) ++ l) (owed_by_shards_more (suc from) n i xs d (omega arith) (omega arith))
-      ∙ sym (append_assoc (owed_by_shard from 0 (f x)) (owed_by_shards (suc from) (map f (take i xs))) (owed_by_shard n 0 (f (get_or xs i d))))
+      ∙ sym (append_assoc (owed_by_shard from 0 (f x)) (owed_by_shards (suc from) (map f (take i xs)))
+      (owed_by_shard n 0 (f (get_or xs i d))))
 
 -- the first of a list, one more
-pub take_map_more : {A B : Type 0} (f : A → B) (xs : List A) (n : ℕ) (d : A) → n < length xs → take (suc n) (map f xs) ≡ take n (map f xs) ++ f (get_or xs n d) ∷ []
+pub take_map_more : {A B : Type 0} (f : A → B) (xs : List A) (n : ℕ) (d : A)
+    → n < length xs
+    → take (suc n) (map f xs) ≡ take n (map f xs) ++ f (get_or xs n d) ∷ []
 take_map_more f [] n d lt = absurd (omega arith)
 take_map_more f (x ∷ xs) zero d lt = refl
 take_map_more f (x ∷ xs) (suc n) d lt = ap (λ l. f x ∷ l) (take_map_more f xs n d (omega arith))

@@ -1,4 +1,5 @@
--- What a step that is written down was asked, as an event of the server. What crossed a lock is no part of it.
+-- What a step that is written down was asked, as an event of the server. What crossed a lock is no
+-- part of it.
 use Rattle.std.specs.Prelude.{ℕ}
 use Rattle.node_law.specs.declared.events.ConnEvent.TheVariants as of_conn
 use Rattle.node_law.specs.declared.events.NodeEvent.{NodeEvent}
@@ -12,7 +13,8 @@ use Rattle.thread_node.specs.declared.hub_entries.HubEvent.TheVariants as hub_ev
 
 -- of the hub or its sessions: without what the shards had finished, and without the deltas
 abbrev pub event_of_hub : HubEvent → NodeEvent
-event_of_hub (hub_event.Publish conn publication word finished) = Own (own.Publish conn publication word)
+event_of_hub (hub_event.Publish conn publication word finished) =
+    Own (own.Publish conn publication word)
 event_of_hub (hub_event.Receive frame finished) = Receive frame
 event_of_hub (hub_event.Collect shard deltas) = Own (own.Collect shard)
 event_of_hub hub_event.Drain = Own own.Drain
@@ -26,10 +28,13 @@ event_of_hub (hub_event.Cut session) = Own (own.CutSession session)
 -- of the shard of this number: without jobs, deltas, and who won a claim
 abbrev pub event_of_shard : ℕ → ShardEvent → NodeEvent
 event_of_shard shard shard_event.Attach = Own (own.AtShard shard work.Attach)
-event_of_shard shard (shard_event.Subscribe conn key sid) = Own (own.OfConn conn (of_conn.Subscribe key sid))
-event_of_shard shard (shard_event.Unsubscribe conn sid max) = Own (own.OfConn conn (of_conn.Unsubscribe sid max))
+event_of_shard shard (shard_event.Subscribe conn key sid) =
+    Own (own.OfConn conn (of_conn.Subscribe key sid))
+event_of_shard shard (shard_event.Unsubscribe conn sid max) =
+    Own (own.OfConn conn (of_conn.Unsubscribe sid max))
 event_of_shard shard (shard_event.Reply conn frame) = Own (own.OfConn conn (of_conn.Reply frame))
-event_of_shard shard (shard_event.SetHeaders conn on) = Own (own.OfConn conn (of_conn.SetHeaders on))
+event_of_shard shard (shard_event.SetHeaders conn on) =
+    Own (own.OfConn conn (of_conn.SetHeaders on))
 event_of_shard shard (shard_event.Shut conn text) = Own (own.OfConn conn (of_conn.Shut text))
 event_of_shard shard (shard_event.Detach conn) = Own (own.OfConn conn of_conn.Detach)
 event_of_shard shard (shard_event.Take conn count) = Own (own.OfConn conn (of_conn.Take count))

@@ -1,12 +1,22 @@
 -- What the passes of callers have to tell of what was written down under the locks.
-use Rattle.std.specs.Prelude.{◌≡◌, ◌<◌, ℕ, suc, All, length, take, slice_index_or, flat_map, Bool, true, false, cond, List, [], ◌∷◌, ◌++◌}
+use Rattle.std.specs.Prelude.{◌≡◌, ◌<◌, ℕ, suc, All, length, take, slice_index_or, flat_map, Bool, true, false, cond, List, [], ◌∷◌, ◌++◌, Option, None, Some, Result, Ok, Err}
+use Rattle.std.specs.Option.{option_map}
 use Rattle.std.specs.List.Sorted.{IsPermutation}
+use Rattle.subj.specs.declared.failures.Failure.{Failure}
+use Rattle.subj.specs.declared.failures.Failure.TheVariants.{Refused, OutOfMemory}
+use Rattle.hub_core.specs.declared.faults.HubFault.{HubFault}
+use Rattle.route_session.specs.declared.faults.SessionFault.{SessionFault}
 use Rattle.node_law.specs.declared.events.NodeEvent.{NodeEvent}
+use Rattle.node_law.specs.declared.faults.NodeFault.{NodeFault}
+use Rattle.node_law.specs.declared.faults.NodeFault.TheVariants as fault
 use Rattle.node_threads.specs.declared.shard_entries.ShardEntry.{ShardEntry}
 use Rattle.node_threads.specs.declared.shard_entries.ShardTold.{ShardTold}
-use Rattle.node_threads.specs.declared.shard_entries.ShardTold.TheVariants.{Attached, Opened, AlreadyOpen, Unsubscribed, Replied, HeadersSet, WasShut, Detached, Taken, Work, Dropped, Drained}
+use Rattle.node_threads.specs.declared.shard_entries.ShardTold.TheVariants as shard_told
 use Rattle.thread_report.specs.Events.{event_of_hub, event_of_shard}
+use Rattle.thread_node.specs.Told.{told_of_hub, told_of_sessions}
 use Rattle.thread_node.specs.declared.hub_entries.HubEntry.{HubEntry}
+use Rattle.thread_node.specs.declared.hub_entries.HubTold.{HubTold}
+use Rattle.thread_node.specs.declared.hub_entries.HubTold.TheVariants as hub_told
 use Rattle.thread_report.specs.declared.passes.Call.{Call}
 use Rattle.thread_report.specs.declared.passes.CallAnswer.{CallAnswer}
 use Rattle.thread_report.specs.declared.passes.CallAnswer.TheVariants.{Hub, Shard}
@@ -20,18 +30,57 @@ pub record PassCalls : Type 0 where
   pub calls : List Call
   pub room : ℕ
 
--- where steps are written down, a pass gains this call, at some place among the steps under its lock
-abbrev pub Gains : Bool → ℕ → NodeEvent → CallAnswer → List Call → List Call → Type 0
-Gains true lock event told old new = (place : ℕ) × (new ≡ old ++ call lock place event told ∷ [])
-Gains false lock event told old new = new ≡ old
+-- where steps are written down, a pass gains this call, at some place among the entries under its
+-- lock
+abbrev pub GainsOne : Bool → ℕ → NodeEvent → CallAnswer → List Call → List Call → Type 0
+GainsOne true lock event told old new = (place : ℕ) × (new ≡ old ++ call lock place event told ∷ [])
+GainsOne false lock event told old new = new ≡ old
 
--- ---- what is owed: what was asked, and what was answered
+-- or none, where there is nothing to tell
+abbrev pub Gains : Bool → ℕ → NodeEvent → Option CallAnswer → List Call → List Call → Type 0
+Gains keep lock event None old new = new ≡ old
+Gains keep lock event (Some told) old new = GainsOne keep lock event told old new
+
+-- What a caller has to tell of what it was answered: the answer, or why it was refused. For want of
+-- memory nothing was done, and for a shard that is not there no lock was taken.
+
+-- of the hub
+abbrev pub by_hub : {X : Type 0} → (X → HubTold) → Result X (Failure HubFault) → Option CallAnswer
+by_hub told result = option_map (λ t. Hub t) (told_of_hub told result)
+
+-- of the sessions
+abbrev pub by_sessions : {X : Type 0}
+    → (X → HubTold)
+    → Result X (Failure SessionFault)
+    → Option CallAnswer
+by_sessions told result = option_map (λ t. Hub t) (told_of_sessions told result)
+
+-- of the server: a shard, or the hub with a shard
+abbrev pub refused_by : NodeFault → Option CallAnswer
+refused_by fault.NoShard = None
+refused_by (fault.Shard why) = Some (Shard (shard_told.Refused why))
+refused_by (fault.Hub why) = Some (Hub (hub_told.Refused (fault.Hub why)))
+refused_by (fault.Session why) = Some (Hub (hub_told.Refused (fault.Session why)))
+
+abbrev pub failed_by : Failure NodeFault → Option CallAnswer
+failed_by (Refused why) = refused_by why
+failed_by OutOfMemory = None
+
+abbrev pub by_server : {X : Type 0}
+    → (X → CallAnswer)
+    → Result X (Failure NodeFault)
+    → Option CallAnswer
+by_server told (Ok x) = Some (told x)
+by_server told (Err failure) = failed_by failure
+
+-- ---- what is owed: what was asked, and what was answered, if only a refusal
 
 abbrev pub call_of_hub : ℕ → HubEntry → Call
 call_of_hub place entry = call 0 place (event_of_hub entry.event) (Hub entry.told)
 
 abbrev pub call_of_shard : ℕ → ℕ → ShardEntry → Call
-call_of_shard shard place entry = call shard place (event_of_shard shard entry.event) (Shard entry.told)
+call_of_shard shard place entry =
+    call shard place (event_of_shard shard entry.event) (Shard entry.told)
 
 -- of what the hub did, from this place on
 abbrev pub owed_by_hub : ℕ → List HubEntry → List Call
@@ -40,18 +89,19 @@ owed_by_hub place (entry ∷ tape) = call_of_hub place entry ∷ owed_by_hub (su
 
 -- nobody is told of the parts of a turn; and of a collect the hub's caller is
 abbrev pub is_told : ShardTold → Bool
-is_told (Attached conn) = true
-is_told (Opened sub) = true
-is_told AlreadyOpen = true
-is_told (Unsubscribed ended) = true
-is_told (Replied shut ended) = true
-is_told HeadersSet = true
-is_told (WasShut ended) = true
-is_told (Detached ended) = true
-is_told (Taken entries) = true
-is_told Work = false
-is_told (Dropped turn) = true
-is_told Drained = true
+is_told (shard_told.Attached conn) = true
+is_told (shard_told.Opened sub) = true
+is_told shard_told.AlreadyOpen = true
+is_told (shard_told.Unsubscribed ended) = true
+is_told (shard_told.Replied shut ended) = true
+is_told shard_told.HeadersSet = true
+is_told (shard_told.WasShut ended) = true
+is_told (shard_told.Detached ended) = true
+is_told (shard_told.Taken entries) = true
+is_told shard_told.Work = false
+is_told (shard_told.Dropped turn) = true
+is_told shard_told.Drained = true
+is_told (shard_told.Refused why) = true
 
 abbrev pub owed_one : ℕ → ℕ → ShardEntry → List Call
 owed_one shard place entry = cond (is_told entry.told) (call_of_shard shard place entry ∷ []) []
@@ -59,7 +109,8 @@ owed_one shard place entry = cond (is_told entry.told) (call_of_shard shard plac
 -- of what one shard did, from this place on
 abbrev pub owed_by_shard : ℕ → ℕ → List ShardEntry → List Call
 owed_by_shard shard place [] = []
-owed_by_shard shard place (entry ∷ tape) = owed_one shard place entry ++ owed_by_shard shard (suc place) tape
+owed_by_shard shard place (entry ∷ tape) =
+    owed_one shard place entry ++ owed_by_shard shard (suc place) tape
 
 -- of what all shards did, from this one on
 abbrev pub owed_by_shards : ℕ → List (List ShardEntry) → List Call
@@ -77,9 +128,14 @@ Precedes a b = a.lock ≡ b.lock → a.place < b.place
 
 -- the calls under each lock stand in the order in which they were made
 abbrev pub IsInOrder : List Call → Type 0
-IsInOrder calls = (j : ℕ) (d : Call) → j < length calls → All (λ c. Precedes c (slice_index_or calls j d)) (take j calls)
+IsInOrder calls =
+    (j : ℕ) (d : Call)
+    → j < length calls
+    → All (λ c. Precedes c (slice_index_or calls j d)) (take j calls)
 
--- the passes tell each step that a caller made, once, and nothing else, those of one caller in order
-pub record AreTold (passes : List PassCalls) (hub : List HubEntry) (shards : List (List ShardEntry)) : Type 0 where
+-- the passes tell each step that a caller made, and each refusal, once, and nothing else, those of
+-- one caller in order
+pub record AreTold (passes : List PassCalls) (hub : List HubEntry)
+    (shards : List (List ShardEntry)) : Type 0 where
   pub in_order : All (λ pass. IsInOrder pass.calls) passes
   pub once : IsPermutation (flat_map (λ pass. pass.calls) passes) (calls_owed hub shards)

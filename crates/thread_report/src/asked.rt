@@ -94,7 +94,8 @@ pub(crate) fn is_of_shard(event: &NodeEvent, shard: u64, asked: &ShardEvent) -> 
 
 /// Whether a shard was asked for this subscription of this connection.
 fn is_subscribe(conn: ConnId, key: &Key, sid: &Sid, shard: u64, asked: &ShardEvent) -> bool
-    ensures { IsTrue result ↔ (Own (OfConn conn (Subscribe key.now sid.now)) ≡ event_of_shard shard asked.now) }
+    ensures { IsTrue result
+        ↔ (Own (OfConn conn (Subscribe key.now sid.now)) ≡ event_of_shard shard asked.now) }
 {
     match asked {
         ShardEvent::Subscribe {

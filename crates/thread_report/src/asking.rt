@@ -32,7 +32,8 @@ pub(crate) fn reply_event(
     conn: ConnId,
     frame: &ReplyFrame,
 ) -> Result<Option<NodeEvent>, AllocError>
-    ensures { IfOk result (λ event. event ≡ cond keep (Some (Own (OfConn conn (Reply frame.now)))) None) }
+    ensures { IfOk result (λ event.
+        event ≡ cond keep (Some (Own (OfConn conn (Reply frame.now)))) None) }
 {
     if !keep {
         return Ok(None);
@@ -48,7 +49,8 @@ pub(crate) fn publish_event(
     publication: &Pub,
     word: u64,
 ) -> Result<Option<NodeEvent>, AllocError>
-    ensures { IfOk result (λ event. event ≡ cond keep (Some (Own (Publish conn publication.now word))) None) }
+    ensures { IfOk result (λ event.
+        event ≡ cond keep (Some (Own (Publish conn publication.now word))) None) }
 {
     if !keep {
         return Ok(None);
@@ -83,7 +85,8 @@ pub(crate) fn subscribe_event(
     key: &Key,
     sid: &Sid,
 ) -> Result<Option<NodeEvent>, AllocError>
-    ensures { IfOk result (λ event. event ≡ cond keep (Some (Own (OfConn conn (Subscribe key.now sid.now)))) None) }
+    ensures { IfOk result (λ event.
+        event ≡ cond keep (Some (Own (OfConn conn (Subscribe key.now sid.now)))) None) }
 {
     if !keep {
         return Ok(None);
@@ -101,7 +104,8 @@ pub(crate) fn unsubscribe_event(
     sid: &Sid,
     max: Option<u64>,
 ) -> Result<Option<NodeEvent>, AllocError>
-    ensures { IfOk result (λ event. event ≡ cond keep (Some (Own (OfConn conn (Unsubscribe sid.now max)))) None) }
+    ensures { IfOk result (λ event.
+        event ≡ cond keep (Some (Own (OfConn conn (Unsubscribe sid.now max)))) None) }
 {
     if !keep {
         return Ok(None);

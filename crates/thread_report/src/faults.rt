@@ -14,7 +14,8 @@ pub enum Unfinished {
     /// still. No server comes to it: the locks' types cannot say so.
     #[error("what stands under the lock of shard {0} is not its own (0: under none)")]
     Torn(u64),
-    /// The passes do not tell each step once that a caller made under a lock, as it was asked and answered, and nothing else.
+    /// The passes do not tell each step and each refusal once of which a caller was told under a lock, as it was
+    /// asked and answered, and nothing else.
     #[error("the passes do not tell each call once, as it was asked and answered")]
     Untold,
 }

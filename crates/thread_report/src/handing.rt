@@ -1,12 +1,12 @@
 //! Whether the hub was handed the deltas that the shards gave.
 
 ghost use Rattle.std.specs.Prelude.{◌≡◌, true, None, IfOk, map};
-ghost use Rattle.thread_report.specs.Handing.{AreHanded, deltas_given, deltas_heard};
+ghost use Rattle.thread_report.specs.Handing.{AreHanded, deltas_given, deltas_heard, is_collected as was_collected};
 
 use node_threads::{Deltas, ShardEntry, ShardEvent};
 use std::alloc::{AllocError, Global};
 use subj::Delta;
-use thread_node::{HubEntry, HubEvent};
+use thread_node::{HubEntry, HubEvent, HubTold};
 use value_equality::is_same_key;
 
 /// Whether it is the same delta.
@@ -46,14 +46,22 @@ fn are_alike(a: &[&Deltas], b: &[&Deltas]) -> bool
     true
 }
 
+/// Whether a collect was not refused.
+fn is_collected(told: HubTold) -> bool
+    ensures { result ≡ was_collected told }
+{
+    matches!(told, HubTold::Collected { .. })
+}
+
 /// The deltas that the hub was handed by the shard of this number.
 fn heard_of(alloc: Global, hub: &[HubEntry], number: u64) -> Result<Vec<&Deltas>, AllocError>
-    ensures { IfOk result (λ all. map (λ deltas. deltas.now) all.items ≡ deltas_heard number hub.now) }
+    ensures { IfOk result (λ all.
+        map (λ deltas. deltas.now) all.items ≡ deltas_heard number hub.now) }
 {
     let mut all = Vec::new(alloc);
     for entry in hub {
         if let HubEvent::Collect { shard, deltas } = &entry.event {
-            if *shard == number {
+            if *shard == number && is_collected(entry.told) {
                 all.push(deltas)?;
             }
         }
@@ -82,7 +90,8 @@ pub(crate) fn torn_shard(
     hub: &[HubEntry],
     worked: &[Vec<ShardEntry>],
 ) -> Result<Option<u64>, AllocError>
-    ensures { IfOk result (λ torn. torn ≡ None → keep ≡ true → AreHanded hub.now (map (λ entries. entries.items) worked.now)) }
+    ensures { IfOk result (λ torn.
+        torn ≡ None → keep ≡ true → AreHanded hub.now (map (λ entries. entries.items) worked.now)) }
 {
     if !keep {
         return Ok(None);
@@ -96,7 +105,8 @@ fn first_torn(
     hub: &[HubEntry],
     worked: &[Vec<ShardEntry>],
 ) -> Result<Option<u64>, AllocError>
-    ensures { IfOk result (λ torn. torn ≡ None → AreHanded hub.now (map (λ entries. entries.items) worked.now)) }
+    ensures { IfOk result (λ torn.
+        torn ≡ None → AreHanded hub.now (map (λ entries. entries.items) worked.now)) }
 {
     for place in 0..worked.len() {
         let number = place as u64 + 1;

@@ -16,17 +16,6 @@ pub enum IssuedJob {
     Routed { turn: Turn, id: PubId },
 }
 
-/// How many publications of own clients an event takes, 0 or 1.
-fn count_own(event: &HubEvent) -> u64
-    ensures count { result ≡ owned event.now }
-    ensures few { result ≤ 1 }
-{
-    match event {
-        HubEvent::Publish { .. } => 1,
-        _ => 0,
-    }
-}
-
 /// The turn of the job that an answer tells.
 fn turn_in(told: HubTold) -> Option<Turn>
     ensures { option_to_list result ≡ turns_in told }
@@ -34,6 +23,20 @@ fn turn_in(told: HubTold) -> Option<Turn>
     match told {
         HubTold::Issued { turn, .. } | HubTold::Routed(turn) => Some(turn),
         _ => None,
+    }
+}
+
+/// How many publications of own clients an entry takes, 0 or 1.
+fn count_own(entry: &HubEntry) -> u64
+    ensures count { result ≡ owned entry.now.event entry.now.told }
+    ensures few { result ≤ 1 }
+{
+    match &entry.event {
+        HubEvent::Publish { .. } => match entry.told {
+            HubTold::Issued { .. } | HubTold::Routed(_) => 1,
+            _ => 0,
+        },
+        _ => 0,
     }
 }
 
@@ -76,7 +79,7 @@ pub(crate) fn issued_on(alloc: Global, tape: &[HubEntry]) -> Result<Vec<IssuedJo
     let mut next = 1;
     for entry in tape {
         add(&mut jobs, job_by(next, entry))?;
-        next += count_own(&entry.event);
+        next += count_own(entry);
     }
     Ok(jobs)
 }

@@ -1,5 +1,5 @@
-//! What callers asked a server on threads and were told, and the report at its end: that the server made a legal run, and that
-//! what was written down of it is what its callers say.
+//! What callers asked a server on threads and were told, and the report at its end: that the server made a legal run,
+//! and that what was written down of it is what its callers say.
 //!
 //! ```text
 //! let mut pass = Pass::new(alloc);
@@ -11,10 +11,11 @@
 //!
 //! A server (`thread_node`) needs none of it to run: a caller that wants no report makes the server's own calls.
 //!
-//! In reading order: `passes` is what a caller asked and was told, with the server's calls that tell it to a pass, and `asking` the events
-//! that a pass keeps. `report` is the end, and `issued` names the publications that it tells of. That what was written down is what callers
-//! were told is seen by `asked`, `passes_told` and `order`, and that the hub was handed what the shards gave by `handing`. `faults` says why
-//! there is no report.
+//! In reading order: `passes` is what a caller asked and was told, with the server's calls that tell it to a pass
+//! (`hub_calls`, `shard_calls`), and `asking` the events that a pass keeps. `report` is the end, and `issued` names
+//! the publications that it tells of. That what was written down is what callers were told is seen by `asked`,
+//! `passes_told` and `order`, and that the hub was handed what the shards gave by `handing`. `faults` says why there
+//! is no report.
 #![tactic(auto)]
 
 mod asked;

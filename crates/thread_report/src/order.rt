@@ -22,10 +22,13 @@ pub(crate) fn are_rising(calls: &[Call]) -> bool
     true
 }
 
-/// Whether the call under this lock has the least place that the next one there may have, or a later one; then the least place for
-/// the one behind it is written down. No server has a lock beyond those, or so many steps that they have no number.
+/// Whether the call under this lock has the least place that the next one there may have, or a later one; then the
+/// least place for the one behind it is written down. No server has a lock beyond those, or so many steps that they
+/// have no number.
 fn is_next(least: &mut [usize; LOCKS], lock: u64, place: usize) -> bool
-    ensures { result ≡ true → (lock < length least.old) × (slice_index_or least.old lock 0 ≤ place) × (least.new ≡ slice_set least.old lock (place + 1)) }
+    ensures { result ≡ true
+        → (lock < length least.old) × (slice_index_or least.old lock 0 ≤ place)
+        × (least.new ≡ slice_set least.old lock (place + 1)) }
 {
     if lock >= LOCKS as u64 {
         return false;

@@ -10,8 +10,8 @@ use node_threads::{NodeName, ShardEntry, ShardTold};
 use std::alloc::Global;
 use thread_node::HubEntry;
 
-/// Whether the passes tell each step that a caller made, once, and nothing else, those of one caller under one lock
-/// in order; or nothing was to be written down. An `Err` is [`Unfinished::OutOfMemory`].
+/// Whether the passes tell each step that a caller made and each refusal, once, and nothing else, those of one caller
+/// under one lock in order; or nothing was to be written down. An `Err` is [`Unfinished::OutOfMemory`].
 pub(crate) fn are_told<N: NodeName>(
     alloc: Global,
     keep: bool,
@@ -19,7 +19,10 @@ pub(crate) fn are_told<N: NodeName>(
     hub: &[HubEntry],
     worked: &[Vec<ShardEntry>],
 ) -> Result<bool, Unfinished>
-    ensures { IfOk result (λ told. told ≡ true → keep ≡ true → AreTold passes.items hub.now (map (λ entries. entries.items) worked.now)) }
+    ensures { IfOk result (λ told.
+        told ≡ true
+        → keep ≡ true
+        → AreTold passes.items hub.now (map (λ entries. entries.items) worked.now)) }
 {
     if !keep {
         return Ok(true);
@@ -34,7 +37,8 @@ fn tell<N: NodeName>(
     hub: &[HubEntry],
     worked: &[Vec<ShardEntry>],
 ) -> Result<bool, Unfinished>
-    ensures { IfOk result (λ told. told ≡ true → AreTold passes.items hub.now (map (λ entries. entries.items) worked.now)) }
+    ensures { IfOk result (λ told.
+        told ≡ true → AreTold passes.items hub.now (map (λ entries. entries.items) worked.now)) }
 {
     if !all_in_order(passes.as_slice()) {
         return Ok(false);
@@ -63,9 +67,11 @@ fn all_calls<N: NodeName>(alloc: Global, passes: Vec<Pass<N>>) -> Result<Vec<Cal
     Ok(all)
 }
 
-/// Whether these calls are what callers have to tell of all that was written down, in order: what was asked, and what was answered.
+/// Whether these calls are what callers have to tell of all that was written down, in order: what was asked, and what
+/// was answered or refused.
 fn are_owed(calls: &[Call], hub: &[HubEntry], worked: &[Vec<ShardEntry>]) -> bool
-    ensures { result ≡ true → calls.now ≡ calls_owed hub.now (map (λ entries. entries.items) worked.now) }
+    ensures { result ≡ true
+        → calls.now ≡ calls_owed hub.now (map (λ entries. entries.items) worked.now) }
 {
     let Some(rest) = behind_hub(calls, hub) else {
         return false;
@@ -76,7 +82,7 @@ fn are_owed(calls: &[Call], hub: &[HubEntry], worked: &[Vec<ShardEntry>]) -> boo
     rest.is_empty()
 }
 
-/// The calls behind those that tell of what the hub did. None where others stand there.
+/// The calls behind those that tell of what the hub did and refused. None where others stand there.
 fn behind_hub<'a>(calls: &'a [Call], tape: &[HubEntry]) -> Option<&'a [Call]>
     ensures { IfSome result (λ rest. calls.now ≡ owed_by_hub 0 tape.now ++ rest.now) }
 {
@@ -93,7 +99,8 @@ fn behind_hub<'a>(calls: &'a [Call], tape: &[HubEntry]) -> Option<&'a [Call]>
 
 /// The same of all shards.
 fn behind_shards<'a>(calls: &'a [Call], worked: &[Vec<ShardEntry>]) -> Option<&'a [Call]>
-    ensures { IfSome result (λ rest. calls.now ≡ owed_by_shards 1 (map (λ entries. entries.items) worked.now) ++ rest.now) }
+    ensures { IfSome result (λ rest.
+        calls.now ≡ owed_by_shards 1 (map (λ entries. entries.items) worked.now) ++ rest.now) }
 {
     let mut rest = calls;
     for place in 0..worked.len() {
@@ -113,7 +120,7 @@ fn behind_shard<'a>(calls: &'a [Call], shard: u64, tape: &[ShardEntry]) -> Optio
     Some(rest)
 }
 
-/// The same of one step of a shard.
+/// The same of one entry of a shard.
 fn behind_one<'a>(
     calls: &'a [Call],
     shard: u64,
@@ -133,7 +140,7 @@ fn behind_one<'a>(
     }
 }
 
-/// Whether the call tells of this step of the hub, at its place.
+/// Whether the call tells of this entry of the hub, at its place.
 fn is_by_hub(call: &Call, place: usize, entry: &HubEntry) -> bool
     ensures { result ≡ true → call.now ≡ call_of_hub place entry.now }
 {
@@ -143,7 +150,7 @@ fn is_by_hub(call: &Call, place: usize, entry: &HubEntry) -> bool
         && is_of_hub(&call.event, &entry.event)
 }
 
-/// Whether the call tells of this step of the shard of this number, at its place.
+/// Whether the call tells of this entry of the shard of this number, at its place.
 fn is_by_shard(call: &Call, shard: u64, place: usize, entry: &ShardEntry) -> bool
     ensures { result ≡ true → call.now ≡ call_of_shard shard place entry.now }
 {

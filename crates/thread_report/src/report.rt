@@ -41,9 +41,10 @@ pub struct Report {
     pub finished: Finished,
     /// Whether what was done was written down.
     pub kept: bool,
-    /// All that the hub and the sessions did, in order; nothing where nothing was written down.
+    /// All that the hub and the sessions did and refused, in order; nothing where nothing was written down.
     pub hub: Vec<HubEntry>,
-    /// All that each shard did, in order, that of shard 1 first; nothing of each where nothing was written down.
+    /// All that each shard did and refused, in order, that of shard 1 first; nothing of each where nothing was
+    /// written down.
     pub worked: Vec<Vec<ShardEntry>>,
 }
 
@@ -57,8 +58,8 @@ fn entries_on<E: Drop>(alloc: Global, keep: bool, tape: Tape<E>) -> Result<Vec<E
     tape.into_entries().ok_or(Unfinished::OutOfMemory)
 }
 
-/// Puts the two ends of a shard's lane together, and gives its seat, and what stands on its tape. [`Unfinished::Torn`] where one of the ends
-/// is not of the shard of this number.
+/// Puts the two ends of a shard's lane together, and gives its seat, and what stands on its tape.
+/// [`Unfinished::Torn`] where one of the ends is not of the shard of this number.
 fn close_shard<T: SubTable, N: NodeName, R: Wait>(
     rt: &R,
     alloc: Global,
@@ -69,7 +70,10 @@ fn close_shard<T: SubTable, N: NodeName, R: Wait>(
 ) -> Result<(ShardSeat, Vec<ShardEntry>), Unfinished>
     ensures seat { IfOk result (λ made. (made.0.race ≡ N.race) × (made.0.part ≡ shard.part)) }
     ensures shard { IfOk result (λ _. shard.part.shard ≡ number) }
-    ensures tape { IfOk result (λ made. (tape : Option (List ShardEntry)) × IsTape N.race.shards shard tape × IsKept keep tape made.1.items) }
+    ensures tape { IfOk result (λ made.
+        (tape : Option (List ShardEntry))
+        × IsTape N.race.shards shard tape
+        × IsKept keep tape made.1.items) }
     ensures popped { IfOk result (λ _. AreFirst shard.popped line.pushed) }
 {
     if line.shard() != number || shard.shard() != number {
@@ -90,7 +94,11 @@ fn close_shards<T: SubTable, N: NodeName, R: Wait>(
     lines: Vec<LaneSender<N>>,
     shards: Vec<Mutex<LockedShard<T, N>>>,
 ) -> Result<(Vec<ShardSeat>, Vec<Vec<ShardEntry>>), Unfinished>
-    ensures { IfOk result (λ made. (length made.0.items ≡ vec_len shards) × ((issued : List Job) → All (λ line. AreFirst line.pushed issued) lines.items → AreClosed N.race issued keep made.0.items (map (λ entries. entries.items) made.1.items))) }
+    ensures { IfOk result (λ made.
+        (length made.0.items ≡ vec_len shards)
+        × ((issued : List Job) → All (λ line. AreFirst line.pushed issued) lines.items
+        → AreClosed N.race issued keep made.0.items
+        (map (λ entries. entries.items) made.1.items))) }
 {
     let count = shards.len();
     let mut seats = Vec::new(alloc);
@@ -118,7 +126,9 @@ fn close_race(
     requires hub { seat.race ≡ arc_value cells }
     requires shards { AllOf (arc_value cells) seats.items }
     requires each { HasEach (arc_value cells).shards seats.items }
-    ensures { IfOk result (λ closed. IsClosed (arc_value cells) seat.part seats.items closed.issued closed.finished closed.cells.items) }
+    ensures { IfOk result (λ closed.
+        IsClosed (arc_value cells) seat.part seats.items closed.issued closed.finished
+        closed.cells.items) }
 {
     let Some(cells) = Arc::into_inner(cells) else {
         return Err(Unfinished::Torn(0));
@@ -152,7 +162,9 @@ fn close_all<T: SubTable, N: NodeName, R: Wait>(
     requires race { arc_value cells ≡ N.race }
     requires all { vec_len shards ≡ N.race.shards }
     ensures hub { IfOk result (λ _. IsAtHub N.race.shards state) }
-    ensures over { IfOk result (λ made. IsOver N.race state keep (map (λ entries. entries.items) made.1.items) made.0.issued made.0.finished made.0.cells.items) }
+    ensures over { IfOk result (λ made.
+        IsOver N.race state keep (map (λ entries. entries.items) made.1.items) made.0.issued
+        made.0.finished made.0.cells.items) }
 {
     let (seat, lines) = state.into_parts();
     let (seats, worked) = close_shards(rt, alloc, keep, lines, shards)?;
@@ -167,7 +179,15 @@ fn reported<T: SubTable, N: NodeName, R: Wait>(
     node: ThreadNode<T, N>,
 ) -> Result<Report, Unfinished>
     ensures kept { IfOk result (λ report. report.kept ≡ N.keep) }
-    ensures legal { IfOk result (λ report. (hub : HubRun) × (runs : List ShardRun) × IsLegal N.race.shards hub runs × AreOnce hub runs × Tells hub runs report.issued report.finished × IsWritten report.kept hub runs report.hub.items (map (λ entries. entries.items) report.worked.items) × AreIssued report.kept hub report.jobs.items) }
+    ensures legal { IfOk result (λ report.
+        (hub : HubRun)
+        × (runs : List ShardRun)
+        × IsLegal N.race.shards hub runs
+        × AreOnce hub runs
+        × Tells hub runs report.issued report.finished
+        × IsWritten report.kept N.race.shards hub runs report.hub.items
+        (map (λ entries. entries.items) report.worked.items)
+        × AreIssued report.kept hub report.jobs.items) }
 {
     let keep = node.keeps_tapes();
     let (hub, shards) = node.into_locked();
@@ -193,8 +213,10 @@ fn compare<N: NodeName>(
     hub: &[HubEntry],
     worked: &[Vec<ShardEntry>],
 ) -> Result<(), Unfinished>
-    ensures handed { OnOk result (keep ≡ true → AreHanded hub.now (map (λ entries. entries.items) worked.now)) }
-    ensures told { OnOk result (keep ≡ true → AreTold passes.items hub.now (map (λ entries. entries.items) worked.now)) }
+    ensures handed { OnOk result
+        (keep ≡ true → AreHanded hub.now (map (λ entries. entries.items) worked.now)) }
+    ensures told { OnOk result
+        (keep ≡ true → AreTold passes.items hub.now (map (λ entries. entries.items) worked.now)) }
 {
     if let Some(number) = torn_shard(alloc, keep, hub, worked)? {
         return Err(Unfinished::Torn(number));
@@ -205,16 +227,17 @@ fn compare<N: NodeName>(
     Ok(())
 }
 
-/// Ends the server, and tells which turns it issued and finished, and, where it was to be written down, all
-/// that it did, and which publication each turn issued has. There is a legal run with these numbers and just these steps: a list of the hub's and the
-/// sessions' steps and one of each shard's steps, where each shard worked a beginning of the jobs that the
-/// hub gave, in order, no queue name of a turn was won twice, and each that was lost was won by another
-/// shard. Each publication stands in one job, which one publish or one frame of a peer gave; over all shards
-/// it was put once at most for a queue name and once for a subscription, and each subscription got those of
-/// one incarnation in rising number. Where it was written down, the hub was handed just the deltas that each shard gave, collect for
-/// collect ([`Unfinished::Torn`] else, which no server comes to); and then the passes tell each step of the hub's and each one of a shard's but for
-/// collects and the parts of turns, once, with what was asked and answered, and nothing else; and those of one
-/// caller under one lock stand in order.
+/// Ends the server, and tells which turns it issued and finished, and, where it was to be written down, all that it
+/// did and refused, and which publication each turn issued has. There is a legal run with these numbers and just
+/// these steps: a list of the hub's and the sessions' steps and one of each shard's steps, where each shard worked a
+/// beginning of the jobs that the hub gave, in order, no queue name of a turn was won twice, and each that was lost
+/// was won by another shard. Each publication stands in one job, which one publish or one frame of a peer gave; over
+/// all shards it was put once at most for a queue name and once for a subscription, and each subscription got those
+/// of one incarnation in rising number. Where it was written down, the hub was handed just the deltas that each shard
+/// gave, collect for collect ([`Unfinished::Torn`] else, which no server comes to); and then the passes tell each
+/// step of the hub's and each one of a shard's but for collects and the parts of turns, once, with what was asked and
+/// answered, each refusal too, and nothing else; and those of one caller under one lock stand in order. Each refusal
+/// has the cause that the hub or the shard had in the state in which it refused.
 ///
 /// The server is given up for want of memory too. May wait.
 pub fn finish<T: SubTable, N: NodeName, R: Wait>(
@@ -224,9 +247,22 @@ pub fn finish<T: SubTable, N: NodeName, R: Wait>(
     passes: Vec<Pass<N>>,
 ) -> Result<Report, Unfinished>
     ensures kept { IfOk result (λ report. report.kept ≡ N.keep) }
-    ensures handed { IfOk result (λ report. report.kept ≡ true → AreHanded report.hub.items (map (λ entries. entries.items) report.worked.items)) }
-    ensures told { IfOk result (λ report. report.kept ≡ true → AreTold passes.items report.hub.items (map (λ entries. entries.items) report.worked.items)) }
-    ensures legal { IfOk result (λ report. (hub : HubRun) × (runs : List ShardRun) × IsLegal N.race.shards hub runs × AreOnce hub runs × Tells hub runs report.issued report.finished × IsWritten report.kept hub runs report.hub.items (map (λ entries. entries.items) report.worked.items) × AreIssued report.kept hub report.jobs.items) }
+    ensures handed { IfOk result (λ report.
+        report.kept ≡ true
+        → AreHanded report.hub.items (map (λ entries. entries.items) report.worked.items)) }
+    ensures told { IfOk result (λ report.
+        report.kept ≡ true
+        → AreTold passes.items report.hub.items
+        (map (λ entries. entries.items) report.worked.items)) }
+    ensures legal { IfOk result (λ report.
+        (hub : HubRun)
+        × (runs : List ShardRun)
+        × IsLegal N.race.shards hub runs
+        × AreOnce hub runs
+        × Tells hub runs report.issued report.finished
+        × IsWritten report.kept N.race.shards hub runs report.hub.items
+        (map (λ entries. entries.items) report.worked.items)
+        × AreIssued report.kept hub report.jobs.items) }
 {
     let report = reported(rt, alloc, node)?;
     compare(

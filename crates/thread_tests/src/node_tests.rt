@@ -339,7 +339,17 @@ fn works_until_stopped<N: NodeName + Send + Sync, R: Abort + Threads + Wait + Sy
 /// How often each of two threads publishes while members leave.
 const EACH_LEAVING: u64 = 5_000;
 
-/// Publishes [`EACH_LEAVING`] times for the connection of this number, as [`publish_all`] does, and counts each time.
+/// How often a publisher that was refused lets other threads run before it asks again: each refusal is written down.
+const YIELDS: u64 = 1_000;
+
+/// Lets other threads run.
+fn let_others_run() {
+    for _ in 0..YIELDS {
+        thread::yield_now();
+    }
+}
+
+/// Publishes [`EACH_LEAVING`] times for the connection of this number, as [`publish_all`] does but with pauses, and counts each time.
 fn publish_counted<N: NodeName, R: Wait>(
     rt: &R,
     node: &ThreadNode<ListTable, N>,
@@ -358,7 +368,7 @@ fn publish_counted<N: NodeName, R: Wait>(
                 published = published.saturating_add(1);
                 count.fetch_add(1, Ordering::SeqCst);
             }
-            Published::Busy => thread::yield_now(),
+            Published::Busy => let_others_run(),
             Published::Refused => return,
         }
     }

@@ -1,5 +1,5 @@
 -- What is kept in writing of a shard's steps.
-use Rattle.std.proofs.Common.{◌≡◌, ℕ, Bool, true, false, true≢false, cond, List, [], ◌∷◌, ◌++◌, Option, Some, None, refl, sym, ap, ◌∙◌, subst, append_assoc, append-nil}
+use Rattle.std.proofs.Common.{◌≡◌, ℕ, Bool, true, false, true≢false, cond, List, [], ◌∷◌, ◌++◌, Option, Some, None, refl, sym, ap, ◌∙◌, subst, append_assoc, append-nil, inr}
 use Rattle.std.specs.Option.{option_or}
 use Rattle.std.specs.Prelude.{is_some}
 use Rattle.claim_cells.specs.declared.parts.ShardPart.{ShardPart}
@@ -10,9 +10,12 @@ use Rattle.subj.specs.declared.jobs.Job.{Job}
 use Rattle.shard_core.specs.ShardEvents.{Event, DropJob, Answer}
 use Rattle.shard_core.specs.ShardSteps.{shard_refusal, shard_answer}
 use Rattle.shard_core.specs.Shards.{State}
+use Rattle.shard_core.specs.declared.faults.ShardFault.{ShardFault}
+use Rattle.shard_core.specs.declared.faults.ShardFault.TheVariants.{NoJob}
 use Rattle.node_threads.specs.AtWork.{AtWork, Makes, Does, IsAtWork, at_start, seen_as}
-use Rattle.node_threads.specs.Steps.{Done}
-use Rattle.node_threads.specs.Tapes.{Grows, Tells, IsTape, drop_entry, entry_of, entries_of}
+use Rattle.node_threads.specs.Logs.{Made, Did, WasRefused, Refuses, HasNoJob, Logs, steps_in}
+use Rattle.node_threads.specs.Steps.{Done, Leads}
+use Rattle.node_threads.specs.Tapes.{Grows, Tells, IsTape, drop_entry, entry_of, refused_entry, entries_of}
 use Rattle.node_threads.specs.declared.shard_entries.ShardEntry.{ShardEntry}
 use Rattle.node_threads.proofs.Shards.Joining.{makes_join, makes_nothing}
 use Rattle.node_threads.proofs.Shards.Clients.{is_client, client_makes, with_state}
@@ -29,24 +32,70 @@ grows_join a None (Some z) first then g h = absurd h
 grows_join None (Some y) (Some z) first then g h = absurd g
 grows_join (Some x) (Some y) (Some z) first then g h = h ∙ ap (λ l. l ++ then) g ∙ append_assoc x first then
 
-entries_join : (first then : List Done) → entries_of (then ++ first) ≡ entries_of first ++ entries_of then
+entry_join : (first earlier all : List ShardEntry) (entry : ShardEntry) → all ≡ first ++ earlier → all ++ entry ∷ [] ≡ first ++ (earlier ++ entry ∷ [])
+entry_join first earlier all entry is = ap (λ l. l ++ entry ∷ []) is ∙ append_assoc first earlier (entry ∷ [])
+
+entries_join : (first then : List Made) → entries_of (then ++ first) ≡ entries_of first ++ entries_of then
 entries_join first [] = sym (append-nil (entries_of first))
-entries_join first (d ∷ earlier) = ap (λ l. l ++ entry_of d.event d.answer ∷ []) (entries_join first earlier) ∙ append_assoc (entries_of first) (entries_of earlier) (entry_of d.event d.answer ∷ [])
+entries_join first (Did d ∷ earlier) = entry_join (entries_of first) (entries_of earlier) (entries_of (earlier ++ first)) (entry_of d.event d.answer) (entries_join first earlier)
+entries_join first (WasRefused before e why ∷ earlier) = entry_join (entries_of first) (entries_of earlier) (entries_of (earlier ++ first)) (refused_entry e why) (entries_join first earlier)
+
+steps_join : (first then : List Made) → steps_in (then ++ first) ≡ steps_in then ++ steps_in first
+steps_join first [] = refl
+steps_join first (Did d ∷ earlier) = ap (λ l. d ∷ l) (steps_join first earlier)
+steps_join first (WasRefused before e why ∷ earlier) = steps_join first earlier
+
+logs_join : (a b c : State) (first then : List Made) → Logs a first b → Logs b then c → Logs a (then ++ first) c
+logs_join a b c first [] f t = subst (λ s. Logs a first s) (sym t) f
+logs_join a b c first (Did d ∷ earlier) f t = (t.0, logs_join a b d.before first earlier f t.1)
+logs_join a b c first (WasRefused before e why ∷ earlier) f t = (t.0, t.1, logs_join a b before first earlier f t.2)
 
 pub tells_quiet : (w v : AtWork) (tape : Option (List ShardEntry)) → Makes w [] v → Tells w tape v tape
-tells_quiet w v tape m = record { steps = []; makes = m; grows = grows_not tape }
+tells_quiet w v tape m = record { log = []; makes = m; logs = m.led; grows = grows_not tape }
 
 pub tells_nothing : (w : AtWork) (tape : Option (List ShardEntry)) → Tells w tape w tape
 tells_nothing w tape = tells_quiet w w tape (makes_nothing w)
 
 pub tells_one : (w v : AtWork) (d : Done) (tape more : Option (List ShardEntry)) → Makes w (d ∷ []) v → Grows tape (entry_of d.event d.answer ∷ []) more → Tells w tape v more
-tells_one w v d tape more m g = record { steps = d ∷ []; makes = m; grows = g }
+tells_one w v d tape more m g = record { log = Did d ∷ []; makes = m; logs = m.led; grows = g }
+
+-- an event is refused, where nothing is done
+pub tells_refused : (w v : AtWork) (e : Event) (why : ShardFault) (tape more : Option (List ShardEntry)) → Makes w [] v → Refuses v.state e why → Grows tape (refused_entry e why ∷ []) more → Tells w tape v more
+tells_refused w v e why tape more m r g = record { log = WasRefused v.state e why ∷ []; makes = m; logs = (r, refl, m.led); grows = g }
+
+-- a drop for which there is no job
+pub tells_no_job : (w v : AtWork) (tape more : Option (List ShardEntry)) → Makes w [] v → v.state.hand ≡ None → Grows tape (refused_entry (DropJob None) NoJob ∷ []) more → Tells w tape v more
+tells_no_job w v tape more m none g = tells_refused w v (DropJob None) NoJob tape more m (inr (record { event_is = refl; hand = none; why_is = refl })) g
+
+-- these steps, as what was done and refused
+abbrev did_all : List Done → List Made
+did_all [] = []
+did_all (d ∷ earlier) = Did d ∷ did_all earlier
+
+steps_did : (steps : List Done) → steps_in (did_all steps) ≡ steps
+steps_did [] = refl
+steps_did (d ∷ earlier) = ap (λ l. d ∷ l) (steps_did earlier)
+
+logs_did : (from to : State) (steps : List Done) → Leads from steps to → Logs from (did_all steps) to
+logs_did from to [] l = l
+logs_did from to (d ∷ earlier) l = (l.0, logs_did from d.before earlier l.1)
+
+-- several steps, where no tape is kept
+pub tells_steps : (w v : AtWork) (steps : List Done) (tape : Option (List ShardEntry)) → Makes w steps v
+    → ((entries : List ShardEntry) → Grows tape entries tape) → Tells w tape v tape
+tells_steps w v steps tape m grows = record {
+  log = did_all steps;
+  makes = subst (λ s. Makes w s v) (sym (steps_did steps)) m;
+  logs = logs_did w.state v.state steps m.led;
+  grows = grows (entries_of (did_all steps));
+}
 
 pub tells_join : (a b c : AtWork) (s t u : Option (List ShardEntry)) → Tells a s b t → Tells b t c u → Tells a s c u
 tells_join a b c s t u m n = record {
-  steps = n.steps ++ m.steps;
-  makes = makes_join a b c m.steps n.steps m.makes n.makes;
-  grows = subst (λ es. Grows s es u) (sym (entries_join m.steps n.steps)) (grows_join s t u (entries_of m.steps) (entries_of n.steps) m.grows n.grows);
+  log = n.log ++ m.log;
+  makes = subst (λ steps. Makes a steps c) (sym (steps_join m.log n.log)) (makes_join a b c (steps_in m.log) (steps_in n.log) m.makes n.makes);
+  logs = logs_join a.state b.state c.state m.log n.log m.logs n.logs;
+  grows = subst (λ es. Grows s es u) (sym (entries_join m.log n.log)) (grows_join s t u (entries_of m.log) (entries_of n.log) m.grows n.grows);
 }
 
 -- the tape of all that a shard did goes on

@@ -5,7 +5,8 @@ use Rattle.thread_node.proofs.node.locked_shards.Goals as goal
 
 pub loop-part-init : goal.loop-part-init
 loop-part-init g c = (
-  subst (All (IsNamed g.N.NodeName.race g.N.NodeName.lanes)) (sym c.into_iter-part-iterator.ensures.into_iter_gives.0) c.requires.parts,
+  subst (All (IsNamed g.N.NodeName.race g.N.NodeName.lanes)) (sym c.into_iter-part-iterator.ensures.into_iter_gives.0)
+      c.requires.parts,
   omega (arith, c.new-lines.ensures.len),
   c.new-shards.ensures.len ∙ sym c.new-lines.ensures.len,
   subst (All (λ line. line.pushed ≡ [])) (sym c.new-lines.ensures.items) (none_pushed (λ line. line.pushed)),
@@ -14,7 +15,8 @@ loop-part-init g c = (
 pub add_shard-requires-clause-parts : goal.add_shard-requires-clause-parts
 add_shard-requires-clause-parts g c =
     let named = IsNamed g.N.NodeName.race g.N.NodeName.lanes in
-    all_first named c.in-Some.part c.next.new.self.rest.items (subst (All named) c.in-Some.ensures.steps.0 c.loop-part.invariant.0)
+    all_first named c.in-Some.part c.next.new.self.rest.items
+    (subst (All named) c.in-Some.ensures.steps.0 c.loop-part.invariant.0)
 
 pub loop-part-preserved : goal.loop-part-preserved
 loop-part-preserved g c =

@@ -13,7 +13,10 @@ loop-seat-preserved c =
     let rest = c.next.new.self.rest.items in
     let items = c.in_ok-push.ensures.items in
     let all = λ (ps : _). map (λ (q : ShardParts). q.seat) ps ++ rest in (
-      ap all items ∙ ap (λ l. l ++ rest) (map_snoc (λ (q : ShardParts). q.seat) old p) ∙ append_assoc (map (λ (q : ShardParts). q.seat) old) (p.seat ∷ []) rest
-          ∙ ap (λ s. map (λ (q : ShardParts). q.seat) old ++ s ∷ rest) made.0 ∙ ap (λ l. map (λ (q : ShardParts). q.seat) old ++ l) (sym c.in-Some.ensures.steps.0) ∙ i.0,
-      subst (All (λ (q : ShardParts). IsFreshLane q.near q.far)) (sym items) (all_snoc (λ (q : ShardParts). IsFreshLane q.near q.far) old p i.1 made.1),
+      ap all items ∙ ap (λ l. l ++ rest) (map_snoc (λ (q : ShardParts). q.seat) old p)
+          ∙ append_assoc (map (λ (q : ShardParts). q.seat) old) (p.seat ∷ []) rest
+          ∙ ap (λ s. map (λ (q : ShardParts). q.seat) old ++ s ∷ rest) made.0
+          ∙ ap (λ l. map (λ (q : ShardParts). q.seat) old ++ l) (sym c.in-Some.ensures.steps.0) ∙ i.0,
+      subst (All (λ (q : ShardParts). IsFreshLane q.near q.far)) (sym items)
+          (all_snoc (λ (q : ShardParts). IsFreshLane q.near q.far) old p i.1 made.1),
     )

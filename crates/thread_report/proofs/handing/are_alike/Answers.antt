@@ -14,6 +14,10 @@ loop-place-preserved c =
     let e = c.index-b-place.result in
     let lt : n < length a = omega arith in
     let lu : n < length b = omega (arith, count) in
-    let same : (get_or a n d).now ≡ (get_or b n e).now =
-    ap (λ x. x.now) (sym c.index-a-place.is) ∙ sym c.as_slice.ensures ∙ c.are_same.ensures c.if-not-are_same.false ∙ c.as_slice-in-loop-place.ensures ∙ ap (λ x. x.now) c.index-b-place.is in
-    (rw add-one (take_map_more (λ x. x.now) a n d lt ∙ (λ k. i.0 k ++ same k ∷ []) ∙ sym (take_map_more (λ x. x.now) b n e lu)), count)
+    let same : (get_or a n d).now ≡ (get_or b n e).now = ap (λ x. x.now) (sym c.index-a-place.is)
+    ∙ sym c.as_slice.ensures ∙ c.are_same.ensures c.if-not-are_same.false ∙ c.as_slice-in-loop-place.ensures
+    ∙ ap (λ x. x.now) c.index-b-place.is in (
+      rw add-one (take_map_more (λ x. x.now) a n d lt ∙ (λ k. i.0 k ++ same k ∷ [])
+          ∙ sym (take_map_more (λ x. x.now) b n e lu)),
+      count,
+    )

@@ -5,4 +5,8 @@ use Rattle.thread_report.specs.Handing.{deltas_heard, deltas_given}
 use Rattle.thread_report.proofs.handing.first_torn.Given as goal
 
 abbrev pub invariant-loop-place : goal.invariant-loop-place
-invariant-loop-place l = (k : ℕ) (tape : List ShardEntry) → k < l.place → slice_get (map (λ entries. entries.items) l.worked) k ≡ Some tape → deltas_heard (k + 1) l.hub ≡ deltas_given tape
+invariant-loop-place l =
+    (k : ℕ) (tape : List ShardEntry)
+    → k < l.place
+    → slice_get (map (λ entries. entries.items) l.worked) k ≡ Some tape
+    → deltas_heard (k + 1) l.hub ≡ deltas_given tape

@@ -19,5 +19,8 @@ loop-entry-preserved c =
     let bound = i.1 in (
       omega arith,
       omega arith,
-      c.in_ok-add.ensures ∙ ap (λ w. w ++ option_to_list c.job_by.result) i.2 ∙ ap (λ w. issued_on 1 (take n tape) ++ w) (c.job_by.ensures ∙ ap (λ k. issued_by k entry.event entry.told) here) ∙ sym (issued_more 1 tape n entry lt c.entry-item.is),
+      c.in_ok-add.ensures ∙ ap (λ w. w ++ option_to_list c.job_by.result) i.2
+          ∙ ap (λ w. issued_on 1 (take n tape) ++ w)
+          (c.job_by.ensures ∙ ap (λ k. issued_by k entry.event entry.told) here)
+          ∙ sym (issued_more 1 tape n entry lt c.entry-item.is),
     )

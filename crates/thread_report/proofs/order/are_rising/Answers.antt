@@ -10,6 +10,8 @@ loop-call-preserved c =
     let call = c.call-item.result in
     let e = c.is_next.ensures c.if-not-is_next.false in
     let lt : n < length calls = omega arith in (
-      in_order_more calls n call lt c.call-item.is l.invariant.0 (comes_after l.least (take n calls) call l.invariant.1 e.1),
-      subst (λ least. AreBelow least (take (n + 1) calls)) (sym e.2) (below_more l.least calls n call lt c.call-item.is l.invariant.1 e.0 e.1),
+      in_order_more calls n call lt c.call-item.is l.invariant.0
+          (comes_after l.least (take n calls) call l.invariant.1 e.1),
+      subst (λ least. AreBelow least (take (n + 1) calls)) (sym e.2)
+          (below_more l.least calls n call lt c.call-item.is l.invariant.1 e.0 e.1),
     )

@@ -13,6 +13,9 @@ loop-place-preserved c =
     let lt : n < length tape = omega arith in
     let before = owed_by_hub 0 (take n tape) in
     let here = call_of_hub n (get_or tape n d) ∷ [] in
-    rw add-one
-    (l.invariant ∙ ap (λ w. before ++ w) (c.in_ok-call.ensures.cases.0 ∙ ap (λ x. x ∷ others) (c.is_by_hub.ensures c.if-not-is_by_hub.false ∙ ap (call_of_hub n) c.index-tape-place.is)) ∙ sym (append_assoc before here others)
+    rw add-one (l.invariant
+    ∙ ap (λ w. before ++ w)
+    (c.in_ok-call.ensures.cases.0
+    ∙ ap (λ x. x ∷ others) (c.is_by_hub.ensures c.if-not-is_by_hub.false ∙ ap (call_of_hub n) c.index-tape-place.is))
+    ∙ sym (append_assoc before here others)
     ∙ ap (λ w. w ++ others) (sym (owed_by_hub_more 0 n n tape d lt (omega arith))))

@@ -14,6 +14,7 @@ loop-place-preserved c =
     let lt : n < length tape = omega arith in
     let before = owed_by_shard s 0 (take n tape) in
     let here = owed_one s n (get_or tape n d) in
-    rw add-one
-    (l.invariant ∙ ap (λ w. before ++ w) (c.in_ok-rest.ensures ∙ ap (λ e. owed_one s n e ++ rest) c.index-tape-place.is) ∙ sym (append_assoc before here rest)
+    rw add-one (l.invariant
+    ∙ ap (λ w. before ++ w) (c.in_ok-rest.ensures ∙ ap (λ e. owed_one s n e ++ rest) c.index-tape-place.is)
+    ∙ sym (append_assoc before here rest)
     ∙ ap (λ w. w ++ rest) (sym (owed_by_shard_more s 0 n n tape d lt (omega arith))))

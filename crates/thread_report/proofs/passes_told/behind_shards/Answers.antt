@@ -14,6 +14,6 @@ loop-place-preserved c =
     let tape = c.as_slice.ensures.value ∙ ap (λ t. t.items) c.index-worked-place.is in
     let before = owed_by_shards 1 (map (λ t. t.items) (take n tapes)) in
     let here = owed_by_shard (n + 1) 0 c.as_slice.result.now in
-    rw add-one
-    (l.invariant ∙ ap (λ w. before ++ w) c.in_ok-rest.ensures ∙ sym (append_assoc before here rest) ∙ ap (λ t. (before ++ owed_by_shard (n + 1) 0 t) ++ rest) tape
+    rw add-one (l.invariant ∙ ap (λ w. before ++ w) c.in_ok-rest.ensures ∙ sym (append_assoc before here rest)
+    ∙ ap (λ t. (before ++ owed_by_shard (n + 1) 0 t) ++ rest) tape
     ∙ ap (λ w. w ++ rest) (sym (owed_by_shards_more (λ t. t.items) 1 (n + 1) n tapes d lt (omega arith))))

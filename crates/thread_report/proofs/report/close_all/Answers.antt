@@ -23,15 +23,19 @@ close_race-requires-clause-each g c =
     let issued = c.args.state.issued in
     let closed = c.in_ok-seats.ensures.1 issued c.into_parts-seat.ensures.lines in
     let count = c.in_ok-seats.ensures.0 ∙ c.requires.all in
-    subst (λ (r : RaceId). HasEach r.shards seats) (sym c.requires.race) (has_each race issued c.args.keep seats tapes closed race.shards count)
+    subst (λ (r : RaceId). HasEach r.shards seats) (sym c.requires.race)
+    (has_each race issued c.args.keep seats tapes closed race.shards count)
 
 pub returns-clause-over : goal.returns-clause-over
 returns-clause-over g c =
     let seats = c.in_ok-seats.seats.items in
     let told = c.in_ok-closed.closed in
-    let part = subst (λ (h : HubPart). IsClosed (arc_value c.args.cells) h seats told.issued told.finished told.cells.items) c.into_parts-seat.ensures.seat.1 c.in_ok-closed.ensures in (
+    let part = subst
+    (λ (h : HubPart). IsClosed (arc_value c.args.cells) h seats told.issued told.finished told.cells.items)
+    c.into_parts-seat.ensures.seat.1 c.in_ok-closed.ensures in (
       seats,
       c.in_ok-seats.ensures.0 ∙ c.requires.all,
       c.in_ok-seats.ensures.1 c.args.state.issued c.into_parts-seat.ensures.lines,
-      subst (λ (r : RaceId). IsClosed r c.args.state.part seats told.issued told.finished told.cells.items) c.requires.race part,
+      subst (λ (r : RaceId). IsClosed r c.args.state.part seats told.issued told.finished told.cells.items)
+          c.requires.race part,
     )

@@ -9,8 +9,11 @@ use Rattle.thread_report.proofs.report.close_shards.Goals as goal
 pub loop-line-init : goal.loop-line-init
 loop-line-init g c = λ issued all. (
   all,
-  subst (λ seats. AreClosed g.N.NodeName.race issued c.args.keep seats (map (λ entries. entries.items) c.new-tapes.result.items)) (sym c.new-seats.ensures.items)
-      (subst (λ tapes. AreClosed g.N.NodeName.race issued c.args.keep [] (map (λ entries. entries.items) tapes)) (sym c.new-tapes.ensures.items) (closed_none g.N.NodeName.race issued c.args.keep)),
+  subst (λ seats.
+      AreClosed g.N.NodeName.race issued c.args.keep seats (map (λ entries. entries.items) c.new-tapes.result.items))
+      (sym c.new-seats.ensures.items)
+      (subst (λ tapes. AreClosed g.N.NodeName.race issued c.args.keep [] (map (λ entries. entries.items) tapes))
+      (sym c.new-tapes.ensures.items) (closed_none g.N.NodeName.race issued c.args.keep)),
 )
 
 pub loop-line-preserved : goal.loop-line-preserved
@@ -27,19 +30,33 @@ loop-line-preserved g c = λ issued all.
     let w = c.into_inner.result in
     let old = c.loop-line.seats.items in
     let before = c.loop-line.tapes.items in
-    let seats : c.push_reserved-in-loop-line.new.self.items ≡ old ++ seat ∷ [] = c.push_reserved-in-loop-line.ensures.items ∙ ap (λ s. s ++ seat ∷ []) c.reserve-in-loop-line.ensures.items in
+    let seats : c.push_reserved-in-loop-line.new.self.items ≡ old ++ seat ∷ [] =
+    c.push_reserved-in-loop-line.ensures.items ∙ ap (λ s. s ++ seat ∷ []) c.reserve-in-loop-line.ensures.items in
     let long = ap length seats ∙ length-append old (seat ∷ []) in
-    let tapes = ap (map (λ l. l.items)) (c.push_reserved.ensures.items ∙ ap (λ s. s ++ entries ∷ []) c.reserve.ensures.items) ∙ map_snoc (λ l. l.items) before entries in
-    let number : w.part.shard ≡ length old + 1 = omega (arith, e.shard, c.len.ensures, c.push_reserved-in-loop-line.ensures.len, c.reserve-in-loop-line.ensures.len, long) in (
+    let tapes =
+    ap (map (λ l. l.items)) (c.push_reserved.ensures.items ∙ ap (λ s. s ++ entries ∷ []) c.reserve.ensures.items)
+    ∙ map_snoc (λ l. l.items) before entries in
+    let number : w.part.shard ≡ length old + 1 = omega (
+      arith,
+      e.shard,
+      c.len.ensures,
+      c.push_reserved-in-loop-line.ensures.len,
+      c.reserve-in-loop-line.ensures.len,
+      long,
+    ) in (
       all_rest (λ l. AreFirst l.pushed issued) line rest lines,
-      subst (λ (l : List ShardShown). AreClosed race issued kept l (map (λ x. x.items) c.push_reserved.new.self.items)) (sym {A = List ShardShown} seats)
+      subst (λ (l : List ShardShown). AreClosed race issued kept l (map (λ x. x.items) c.push_reserved.new.self.items))
+          (sym {A = List ShardShown} seats)
           (subst (AreClosed race issued kept (old ++ seat ∷ [])) (sym tapes)
-          (closed_more race issued line.pushed kept old (map (λ l. l.items) before) seat e.tape.0 entries.items w w.part.shard i.1 number e.seat.0 e.seat.1 refl e.tape.1 e.tape.2 e.popped (all_first (λ l. AreFirst l.pushed issued) line rest lines))),
+          (closed_more race issued line.pushed kept old (map (λ l. l.items) before) seat e.tape.0 entries.items w
+          w.part.shard i.1 number e.seat.0 e.seat.1 refl e.tape.1 e.tape.2 e.popped
+          (all_first (λ l. AreFirst l.pushed issued) line rest lines))),
     )
 
 pub returns : goal.returns
 returns g c =
-    let from = ap (λ z. z.a.rest.items) c.into_iter-line-iterator.ensures.into_iter_gives ∙ ap (λ z. z.rest.items) c.zip-line-items.ensures.first ∙ c.into_iter.ensures.rest in (
+    let from = ap (λ z. z.a.rest.items) c.into_iter-line-iterator.ensures.into_iter_gives
+    ∙ ap (λ z. z.rest.items) c.zip-line-items.ensures.first ∙ c.into_iter.ensures.rest in (
       omega (arith, c.if-len-count.false, c.len-2.ensures, c.len-count.ensures),
       λ issued all. (c.loop-line.invariant issued (subst (All (λ l. AreFirst l.pushed issued)) (sym from) all)).1,
     )

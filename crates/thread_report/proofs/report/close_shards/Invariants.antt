@@ -6,5 +6,7 @@ use Rattle.thread_report.proofs.report.close_shards.Given as goal
 
 abbrev pub invariant-loop-line : goal.invariant-loop-line
 invariant-loop-line g l =
-    (issued : List Job) → All (λ line. AreFirst line.pushed issued) l.initial.line-iterator.a.rest.items
-    → All (λ line. AreFirst line.pushed issued) l.line-iterator.a.rest.items × AreClosed g.N.NodeName.race issued l.keep l.seats.items (map (λ entries. entries.items) l.tapes.items)
+    (issued : List Job)
+    → All (λ line. AreFirst line.pushed issued) l.initial.line-iterator.a.rest.items
+    → All (λ line. AreFirst line.pushed issued) l.line-iterator.a.rest.items
+    × AreClosed g.N.NodeName.race issued l.keep l.seats.items (map (λ entries. entries.items) l.tapes.items)

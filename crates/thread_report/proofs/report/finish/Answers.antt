@@ -6,12 +6,16 @@ use Rattle.thread_report.proofs.report.finish.Goals as goal
 pub returns-clause-handed : goal.returns-clause-handed
 returns-clause-handed g c = λ on.
     let handed = c.in_ok-compare.ensures.handed on in
-    subst (λ hub. AreHanded hub (map (λ entries. entries.items) c.in_ok-report.report.worked.items)) c.as_slice.ensures.value
-    (subst (λ worked. AreHanded c.as_slice.result.now (map (λ entries. entries.items) worked)) c.as_slice-2.ensures.value handed)
+    subst (λ hub. AreHanded hub (map (λ entries. entries.items) c.in_ok-report.report.worked.items))
+    c.as_slice.ensures.value
+    (subst (λ worked. AreHanded c.as_slice.result.now (map (λ entries. entries.items) worked))
+    c.as_slice-2.ensures.value handed)
 
 pub returns-clause-told : goal.returns-clause-told
 returns-clause-told g c = λ on.
     let passes = c.args.passes.items in
     let told = c.in_ok-compare.ensures.told on in
-    subst (λ hub. AreTold passes hub (map (λ entries. entries.items) c.in_ok-report.report.worked.items)) c.as_slice.ensures.value
-    (subst (λ worked. AreTold passes c.as_slice.result.now (map (λ entries. entries.items) worked)) c.as_slice-2.ensures.value told)
+    subst (λ hub. AreTold passes hub (map (λ entries. entries.items) c.in_ok-report.report.worked.items))
+    c.as_slice.ensures.value
+    (subst (λ worked. AreTold passes c.as_slice.result.now (map (λ entries. entries.items) worked))
+    c.as_slice-2.ensures.value told)

@@ -1,4 +1,5 @@
 use Rattle.std.proofs.Common.{map, refl, sym, ap, ◌∙◌, subst}
+use Rattle.node_parts.specs.Sides.{jobs_of}
 use Rattle.node_threads.specs.AtHub.{AtHub}
 use Rattle.thread_node.specs.HubTapes.{IsHubTape}
 use Rattle.thread_report.specs.Issued.{turn_and_id}
@@ -19,17 +20,25 @@ returns-clause-legal g c =
     let ended = over.3 in
     let told = c.in_ok-closed.closed in
     let tape = c.into_parts-state.result.2 in
-    let wrote = subst (λ (v : AtHub). IsHubTape v tape) (sym c.into_parts-state.ensures.state) c.into_parts-state.ensures.tape in
+    let wrote =
+    subst (λ (v : AtHub). IsHubTape v tape) (sym c.into_parts-state.ensures.state) c.into_parts-state.ensures.tape in
     let at_hub = c.in_ok-closed.ensures.hub in
-    let run = hub_run race w.issued kept seats tapes closed w refl at_hub tape wrote count told.issued told.finished told.cells.items ended in
+    let run = hub_run race w.issued kept seats tapes closed w refl at_hub tape wrote count told.issued told.finished
+    told.cells.items ended in
     let entries = c.in_ok-hub.hub.items in
-    let written = is_written race w.issued kept seats tapes closed w refl at_hub tape wrote count told.issued told.finished told.cells.items ended entries c.in_ok-hub.ensures.kept in
-    let run_is_legal = legal race w.issued kept seats tapes closed w refl at_hub tape wrote count told.issued told.finished told.cells.items ended in (
+    let written = is_written race w.issued kept seats tapes closed w refl at_hub tape wrote count told.issued
+    told.finished told.cells.items ended entries c.in_ok-hub.ensures.kept in
+    let by_hub = written.hub_is in
+    let run_is_legal = legal race w.issued kept seats tapes closed w refl at_hub tape wrote count told.issued
+    told.finished told.cells.items ended in (
       run,
       closed.0,
       run_is_legal,
       c.legal_runs_are_once.ensures race.shards run closed.0 run_is_legal,
-      tells race w.issued kept seats tapes closed w refl at_hub tape wrote count told.issued told.finished told.cells.items ended,
+      tells race w.issued kept seats tapes closed w refl at_hub tape wrote count told.issued told.finished
+          told.cells.items ended,
       written,
-      ap (map (turn_and_id w.side.server)) c.in_ok-hub.ensures.jobs ∙ names_all kept w.side.server run.steps w.side w.issued entries run_is_legal.hub_run.led run_is_legal.hub_run.gave written.hub_is,
+      ap (map (turn_and_id w.side.server)) c.in_ok-hub.ensures.jobs
+          ∙ names_all kept w.side.server by_hub.log w.side w.issued entries by_hub.logged
+          (run_is_legal.hub_run.gave ∙ ap jobs_of by_hub.steps_are) by_hub.tape_is,
     )

@@ -1,36 +1,36 @@
-use Rattle.node_threads.proofs.Shards.Joining.{works_join, ended_join}
+use Rattle.std.proofs.Common.{subst}
+use Rattle.node_threads.specs.AtWork.{AtWork}
+use Rattle.node_threads.specs.Tapes.{Tells}
+use Rattle.node_threads.specs.Turns.{Turns}
+use Rattle.node_threads.proofs.Shards.Runs.{turns_join}
 use Rattle.node_threads.proofs.Shards.Telling.{tells_join, tells_quiet}
 use Rattle.node_threads.proofs.shard_state.ShardState.turn.Goals as goal
 
 pub returns-then-not-has_job-clause-tells : goal.returns-then-not-has_job-clause-tells
-returns-then-not-has_job-clause-tells g c = tells_quiet c.args.self.now c.has_job.new.self c.args.tape.now c.has_job.ensures.makes
+returns-then-not-has_job-clause-tells g c =
+    tells_quiet c.args.self.now c.has_job.new.self c.args.tape.now c.has_job.ensures.makes
 
-pub returns-then-is_err-clause-turns : goal.returns-then-is_err-clause-turns
-returns-then-is_err-clause-turns g c = works_join c.args.self.now c.has_job.new.self c.begin_next.new.self c.has_job.ensures.works c.begin_next.ensures.works
+pub returns-in-Some-clause-turns : goal.returns-in-Some-clause-turns
+returns-in-Some-clause-turns g c =
+    turns_join c.args.self.now c.has_job.new.self c.work_run.new.self c.in-Some.turned c.has_job.ensures.makes
+    c.in-Some.ensures.some
 
-pub returns-then-is_err-clause-tells : goal.returns-then-is_err-clause-tells
-returns-then-is_err-clause-tells g c =
+pub returns-in-Some-clause-tells : goal.returns-in-Some-clause-tells
+returns-in-Some-clause-tells g c =
     let tape = c.args.tape.now in
-    tells_join c.args.self.now c.has_job.new.self c.begin_next.new.self tape tape c.begin_next.new.tape (tells_quiet c.args.self.now c.has_job.new.self tape c.has_job.ensures.makes) c.begin_next.ensures.tells
-
-pub returns-then-is_err-2-clause-turns : goal.returns-then-is_err-2-clause-turns
-returns-then-is_err-2-clause-turns g c =
-    works_join c.args.self.now c.begin_next.new.self c.claim_rest.new.self (works_join c.args.self.now c.has_job.new.self c.begin_next.new.self c.has_job.ensures.works c.begin_next.ensures.works) c.claim_rest.ensures.works
-
-pub returns-then-is_err-2-clause-tells : goal.returns-then-is_err-2-clause-tells
-returns-then-is_err-2-clause-tells g c =
-    let tape = c.args.tape.now in
-    let begun = tells_join c.args.self.now c.has_job.new.self c.begin_next.new.self tape tape c.begin_next.new.tape (tells_quiet c.args.self.now c.has_job.new.self tape c.has_job.ensures.makes) c.begin_next.ensures.tells in
-    tells_join c.args.self.now c.begin_next.new.self c.claim_rest.new.self tape c.begin_next.new.tape c.claim_rest.new.tape begun c.claim_rest.ensures.tells
+    tells_join c.args.self.now c.has_job.new.self c.work_run.new.self tape tape tape
+    (tells_quiet c.args.self.now c.has_job.new.self tape c.has_job.ensures.makes) c.work_run.ensures.tells
 
 pub returns-clause-turns : goal.returns-clause-turns
 returns-clause-turns g c =
-    ended_join c.args.self.now c.claim_rest.new.self c.end.new.self c.end.result
-    (works_join c.args.self.now c.begin_next.new.self c.claim_rest.new.self (works_join c.args.self.now c.has_job.new.self c.begin_next.new.self c.has_job.ensures.works c.begin_next.ensures.works) c.claim_rest.ensures.works) c.end.ensures.ends
+    turns_join c.args.self.now c.has_job.new.self c.work_one.new.self c.work_one.result c.has_job.ensures.makes
+    (subst (λ (old : AtWork). Turns old c.work_one.result c.work_one.new.self) c.in_default.ensures.none
+    c.work_one.ensures.turns)
 
 pub returns-clause-tells : goal.returns-clause-tells
 returns-clause-tells g c =
     let tape = c.args.tape.now in
-    let begun = tells_join c.args.self.now c.has_job.new.self c.begin_next.new.self tape tape c.begin_next.new.tape (tells_quiet c.args.self.now c.has_job.new.self tape c.has_job.ensures.makes) c.begin_next.ensures.tells in
-    let tried = tells_join c.args.self.now c.begin_next.new.self c.claim_rest.new.self tape c.begin_next.new.tape c.claim_rest.new.tape begun c.claim_rest.ensures.tells in
-    tells_join c.args.self.now c.claim_rest.new.self c.end.new.self tape c.claim_rest.new.tape c.end.new.tape tried c.end.ensures.tells
+    tells_join c.args.self.now c.has_job.new.self c.work_one.new.self tape tape c.work_one.new.tape
+    (tells_quiet c.args.self.now c.has_job.new.self tape c.has_job.ensures.makes)
+    (subst (λ (old : AtWork). Tells old tape c.work_one.new.self c.work_one.new.tape) c.in_default.ensures.none
+    c.work_one.ensures.tells)

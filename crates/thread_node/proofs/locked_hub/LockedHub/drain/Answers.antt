@@ -1,27 +1,29 @@
-use Rattle.std.proofs.Common.{◌≡◌, [], ◌∷◌, refl, sym, subst}
+use Rattle.std.proofs.Common.{refl, subst}
+use Rattle.std.specs.Prelude.{length}
+use Rattle.hub_core.specs.Telling.{drain_frames}
 use Rattle.hub_core.specs.Events as of_hub
 use Rattle.hub_core.specs.Steps.{hub_refusal}
-use Rattle.hub_core.specs.Telling.{drain_frames}
+use Rattle.node_law.specs.declared.faults.NodeFault.TheVariants.{Hub}
 use Rattle.node_parts.specs.Sides.{ByHub, OfHub}
-use Rattle.node_threads.specs.Tapes.{Grows}
-use Rattle.node_threads.proofs.Shards.Telling.{refused_same}
-use Rattle.thread_node.specs.HubTapes.{IsHubTape, hub_entry}
+use Rattle.thread_node.specs.Told.{HubNotes}
 use Rattle.thread_node.specs.declared.hub_entries.HubEvent.TheVariants as event
 use Rattle.thread_node.specs.declared.hub_entries.HubTold.TheVariants as told
-use Rattle.thread_node.proofs.Telling.{hub_does}
+use Rattle.thread_node.proofs.Telling.{hub_answered}
 use Rattle.thread_node.proofs.locked_hub.LockedHub.drain.Goals as goal
 
 pub invariant_of-self : goal.invariant_of-self
 invariant_of-self g c =
     let s = c.self.inside in
     let i = c.self.invariant in
-    let same = refused_same (hub_refusal s.state.side.server s.state.side.hub of_hub.Drain) (c.drain.new.self ≡ s.state) c.in_err-cut.field-0.0 c.in_err-cut.ensures in
-    (i.0, subst (λ w. IsHubTape w s.tape) (sym same) i.1)
-
-pub invariant_of-self-2 : goal.invariant_of-self-2
-invariant_of-self-2 g c =
-    let s = c.self.inside in
-    let i = c.self.invariant in
-    let cut = c.in_ok-cut.cut in
-    let noted = subst (λ n. Grows s.tape (hub_entry event.Drain (told.Collected 1 n) ∷ []) c.note_hub.new.tape) c.length_of.ensures (c.note_hub.ensures event.Drain refl) in
-    (i.0, hub_does s.state c.drain.new.self (ByHub of_hub.Drain) (OfHub (of_hub.Drained (drain_frames s.state.side.server s.state.side.hub) cut.items)) s.tape c.note_hub.new.tape i.1 c.in_ok-cut.ensures.1 refl noted)
+    let asks = of_hub.Drain in
+    let cause = hub_refusal s.state.side.server s.state.side.hub asks in
+    let named = event.Drain in
+    let more = c.note_hub.new.tape in
+    let noted =
+    subst (λ said. HubNotes named said s.tape more) c.told_hub_drained-told.ensures (c.note_hub.ensures named refl) in (
+      i.0,
+      hub_answered s.state c.drain-done.new.self (ByHub asks) named
+          (λ cut. OfHub (of_hub.Drained (drain_frames s.state.side.server s.state.side.hub) cut.items))
+          (λ cut. told.Collected 1 (length cut.items)) (λ fault. Hub fault) cause c.drain-done.result s.tape more i.1 tt
+          refl refl (λ x. refl) (λ x. refl) c.drain-done.ensures noted,
+    )

@@ -1,24 +1,22 @@
-use Rattle.std.proofs.Common.{[], ◌∷◌, subst}
-use Rattle.node_threads.specs.Tapes.{Grows}
-use Rattle.thread_node.specs.HubTapes.{hub_entry, of_received}
+use Rattle.std.proofs.Common.{subst}
+use Rattle.thread_node.specs.Told.{HubNotes}
 use Rattle.thread_node.specs.declared.hub_entries.HubEvent.TheVariants as event
-use Rattle.thread_node.proofs.Telling.{receive_left, receive_kept}
+use Rattle.thread_node.proofs.Telling.{receive_noted}
 use Rattle.thread_node.proofs.locked_hub.LockedHub.receive.Goals as goal
 
 pub invariant_of-self : goal.invariant_of-self
 invariant_of-self g c =
     let s = c.self.inside in
     let i = c.self.invariant in
-    let shards = g.N.NodeName.race.shards in
-    (i.0, receive_left shards s.state c.receive.new.self c.args.frame.now c.in_err-received.field-0.0 s.tape i.1 c.in_err-received.ensures)
-
-pub invariant_of-self-2 : goal.invariant_of-self-2
-invariant_of-self-2 g c =
-    let s = c.self.inside in
-    let i = c.self.invariant in
-    let shards = g.N.NodeName.race.shards in
-    let noted = c.note_hub.ensures (event.Receive c.args.frame.now c.finished-finished.result) c.receive_event-event.ensures in
-    let received = c.in_ok-received.received in
-    let told = subst (λ t. Grows s.tape (hub_entry (event.Receive c.args.frame.now c.finished-finished.result) t ∷ []) c.note_hub.new.tape) c.told_received-told.ensures noted in
-    let known = subst (λ f. Grows s.tape (hub_entry (event.Receive c.args.frame.now f) (of_received received) ∷ []) c.note_hub.new.tape) c.finished-finished.ensures told in
-    (i.0, receive_kept shards s.state c.receive.new.self c.args.frame.now received s.tape c.note_hub.new.tape i.1 c.in_ok-received.ensures known)
+    let frame = c.args.frame.now in
+    let v = c.receive-done.new.self in
+    let more = c.note_hub.new.tape in
+    let noted = c.note_hub.ensures (event.Receive frame c.finished-finished.result) c.receive_event-event.ensures in
+    let seen = subst (λ f. HubNotes (event.Receive frame f) c.told_received-told.result s.tape more)
+    c.finished-finished.ensures noted in
+    let told =
+    subst (λ t. HubNotes (event.Receive frame v.finished) t s.tape more) c.told_received-told.ensures seen in (
+      i.0,
+      receive_noted g.N.NodeName.race.shards s.state v frame c.receive-done.result s.tape more i.1
+          c.receive-done.ensures told,
+    )

@@ -1,12 +1,20 @@
-use Rattle.std.proofs.Common.{refl}
+use Rattle.std.proofs.Common.{refl, subst}
 use Rattle.shard_core.specs.ShardEvents as of_shard
 use Rattle.node_threads.specs.declared.shard_entries.ShardEvent.TheVariants as event
-use Rattle.thread_node.proofs.Telling.{tape_does}
+use Rattle.thread_node.specs.Told.{ShardNotes}
+use Rattle.thread_node.proofs.Telling.{tape_answered}
 use Rattle.thread_node.proofs.locked_shard.LockedShard.attach.Goals as goal
 
-pub invariant_of-self-2 : goal.invariant_of-self-2
-invariant_of-self-2 g c =
+pub invariant_of-self : goal.invariant_of-self
+invariant_of-self g c =
     let s = c.self.inside in
     let i = c.self.invariant in
-    let shards = g.N.NodeName.race.shards in
-    (i.0, tape_does shards s.state c.attach.new.self (of_shard.Attach) (of_shard.Attached c.in_ok-conn.conn) s.tape c.note_shard.new.tape i.1 refl c.in_ok-conn.ensures.0 c.in_ok-conn.ensures.1 (c.note_shard.ensures (event.Attach) refl))
+    let asks = of_shard.Attach in
+    let named = event.Attach in
+    let more = c.note_shard.new.tape in
+    let noted = subst (λ told. ShardNotes named told s.tape more) c.told_attached-told.ensures
+    (c.note_shard.ensures named refl) in (
+      i.0,
+      tape_answered g.N.NodeName.race.shards s.state c.attach-done.new.self asks named (λ conn. of_shard.Attached conn)
+          c.attach-done.result s.tape more i.1 refl (λ a. refl) c.attach-done.ensures noted,
+    )

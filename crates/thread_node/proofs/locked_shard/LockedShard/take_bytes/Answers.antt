@@ -1,16 +1,19 @@
-use Rattle.std.proofs.Common.{[], ◌∷◌, refl, subst}
-use Rattle.shard_core.specs.ShardEvents as of_shard
-use Rattle.node_threads.specs.Tapes.{Grows, entry}
+use Rattle.std.proofs.Common.{refl, subst}
 use Rattle.node_threads.specs.declared.shard_entries.ShardEvent.TheVariants as event
-use Rattle.node_threads.specs.declared.shard_entries.ShardTold.TheVariants as told
-use Rattle.thread_node.proofs.Telling.{tape_does}
+use Rattle.thread_node.specs.Told.{ShardNotes}
+use Rattle.thread_node.proofs.Telling.{tape_took}
 use Rattle.thread_node.proofs.locked_shard.LockedShard.take_bytes.Goals as goal
 
-pub invariant_of-self-2 : goal.invariant_of-self-2
-invariant_of-self-2 g c =
+pub invariant_of-self : goal.invariant_of-self
+invariant_of-self g c =
     let s = c.self.inside in
     let i = c.self.invariant in
-    let shards = g.N.NodeName.race.shards in
-    let took = c.in_ok-taken.ensures.1 in
-    let noted = subst (λ n. Grows s.tape (entry (event.Take c.args.conn c.args.count) (told.Taken n) ∷ []) c.note_shard.new.tape) took.told (c.note_shard.ensures (event.Take c.args.conn c.args.count) refl) in
-    (i.0, tape_does shards s.state c.take_bytes.new.self (of_shard.Take c.args.conn c.args.count) (of_shard.Taken took.entries) s.tape c.note_shard.new.tape i.1 refl c.in_ok-taken.ensures.0 took.does noted)
+    let named = event.Take c.args.conn c.args.count in
+    let more = c.note_shard.new.tape in
+    let noted =
+    subst (λ told. ShardNotes named told s.tape more) c.told_bytes-told.ensures (c.note_shard.ensures named refl) in (
+      i.0,
+      tape_took g.N.NodeName.race.shards s.state c.take_bytes-done.new.self c.args.conn c.args.count
+          c.args.out.now.items c.take_bytes-done.new.out.items c.take_bytes-done.result s.tape more i.1
+          c.take_bytes-done.ensures noted,
+    )

@@ -1,16 +1,28 @@
-use Rattle.std.proofs.Common.{[], ◌∷◌, refl, subst}
+use Rattle.std.proofs.Common.{◌≡◌, refl, subst}
 use Rattle.std.specs.Prelude.{option_to_list}
 use Rattle.shard_core.specs.ShardEvents as of_shard
-use Rattle.node_threads.specs.Tapes.{Grows, entry}
+use Rattle.shard_core.specs.ShardSteps.{shard_refusal}
+use Rattle.node_threads.specs.AtWork.{Does}
 use Rattle.node_threads.specs.declared.shard_entries.ShardEvent.TheVariants as event
-use Rattle.node_threads.specs.declared.shard_entries.ShardTold.TheVariants as told
-use Rattle.thread_node.proofs.Telling.{tape_does}
+use Rattle.thread_node.specs.Told.{ShardNotes, of_decision}
+use Rattle.thread_node.proofs.Telling.{answered_so, tape_answered}
 use Rattle.thread_node.proofs.locked_shard.LockedShard.unsubscribe.Goals as goal
 
-pub invariant_of-self-2 : goal.invariant_of-self-2
-invariant_of-self-2 g c =
+pub invariant_of-self : goal.invariant_of-self
+invariant_of-self g c =
     let s = c.self.inside in
     let i = c.self.invariant in
-    let shards = g.N.NodeName.race.shards in
-    let noted = subst (λ n. Grows s.tape (entry (event.Unsubscribe c.args.conn c.args.sid.now c.args.max) (told.Unsubscribed n) ∷ []) c.note_shard.new.tape) c.count_of.ensures (c.note_shard.ensures (event.Unsubscribe c.args.conn c.args.sid.now c.args.max) c.unsubscribe_event-event.ensures) in
-    (i.0, tape_does shards s.state c.unsubscribe.new.self (of_shard.Unsubscribe c.args.conn c.args.sid.now c.args.max) (of_shard.Unsubscribed (option_to_list c.in_ok-ended.ended)) s.tape c.note_shard.new.tape i.1 refl c.in_ok-ended.ensures.0 c.in_ok-ended.ensures.1 (noted))
+    let asks = of_shard.Unsubscribe c.args.conn c.args.sid.now c.args.max in
+    let named = event.Unsubscribe c.args.conn c.args.sid.now c.args.max in
+    let more = c.note_shard.new.tape in
+    let noted = subst (λ told. ShardNotes named told s.tape more) c.told_unsubscribed-told.ensures
+    (c.note_shard.ensures named c.unsubscribe_event-event.ensures) in
+    let v = c.unsubscribe-done.new.self in
+    let answered = answered_so (shard_refusal s.state.state asks)
+    (λ x. Does s.state asks (of_shard.Unsubscribed (option_to_list x)) v) (v ≡ s.state) c.unsubscribe-done.result
+    c.unsubscribe-done.ensures in (
+      i.0,
+      tape_answered g.N.NodeName.race.shards s.state c.unsubscribe-done.new.self asks named
+          (λ x. of_shard.Unsubscribed (option_to_list x)) (of_decision c.unsubscribe-done.result) s.tape more i.1 refl
+          (λ a. refl) answered noted,
+    )

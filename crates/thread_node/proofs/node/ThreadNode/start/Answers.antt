@@ -18,4 +18,5 @@ locked-requires-clause-parts g c =
     let p = c.parts.inside in
     let race = ap (λ (v : Given). v.race) c.parts.view_is ∙ c.requires.race in
     let lanes = ap (λ (v : Given). v.lanes) c.parts.view_is ∙ c.requires.lanes in
-    subst (λ (r : _). All (IsNamed r g.N.NodeName.lanes) p.shards.items) race (named p.server p.cells p.hub p.shards.items g.N.NodeName.lanes c.parts.invariant lanes)
+    subst (λ (r : _). All (IsNamed r g.N.NodeName.lanes) p.shards.items) race
+    (named p.server p.cells p.hub p.shards.items g.N.NodeName.lanes c.parts.invariant lanes)
