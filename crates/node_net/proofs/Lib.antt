@@ -2,5 +2,11 @@
 pub mod SendingLemmas
 -- runs of calls, seen at what is held
 pub mod HoldLemmas
--- each turn of a client's connection is one run of its life
+-- the calls of a turn of a client's connection are one run of its life
 pub mod TurnLemmas
+-- frames that are handed to the hub, one after the other
+pub mod RouteLemmas
+-- shards that are worked, job by job and shard by shard
+pub mod WorkLemmas
+-- frames that are spelt one behind the other
+pub mod TellingLemmas

@@ -1,5 +1,5 @@
 -- What becomes of bytes that are sent to a connection.
-use Rattle.std.specs.Prelude.{◌≡◌, ℕ, ◌-◌, ◌^◌, ◌+◌, min, Bool, true, List, [], ◌∷◌, ◌++◌, length, Some, ◌⊎◌}
+use Rattle.std.specs.Prelude.{◌≡◌, ℕ, ◌-◌, ◌^◌, ◌+◌, min, Bool, true, if◌then◌else◌, List, [], ◌∷◌, ◌++◌, length, Some, ◌⊎◌}
 use Rattle.std.specs.Bool.{OnTrue, OnFalse}
 use Rattle.std.specs.Option.{option_or}
 use Rattle.net_streams.specs.Writes.{Came}
@@ -11,9 +11,18 @@ use Rattle.node_net.specs.declared.connection.Ending.TheVariants.{Open, Shut, Go
 
 -- ---- the end of a connection
 
--- There was no memory for what it is owed: it is sent nothing more and given up, for that cause unless there was another before.
+-- whether it goes on: one whose stream has failed does not
+abbrev pub ending_of : {S : Type 0} → Connection S → Ending
+ending_of c = if c.wire.has_failed then Gone else c.ending
+
+-- There was no memory for what it is owed: it is sent nothing more and given up, for that cause
+-- unless there was another before.
 abbrev pub out_of_memory : {S : Type 0} → Connection S → Connection S
-out_of_memory c = record c { has_gap = true; ending = Gone; cause = option_or c.cause (Some OutOfMemory) }
+out_of_memory c = record c {
+  has_gap = true;
+  ending = Gone;
+  cause = option_or c.cause (Some OutOfMemory);
+}
 
 -- how a connection ends of which these bytes wait: one that is shut is given up once none does
 abbrev pub ending_beside : Ending → List ℕ → Ending
@@ -28,56 +37,82 @@ closed_if_written c = record c { ending = ending_beside c.ending c.out }
 
 -- ---- bytes that are sent
 
--- What happens as bytes are sent: they are put behind those that wait, and where none waited a run of writes takes a front of them.
+-- What happens as bytes are sent: they are put behind those that wait, and where none waited a run
+-- of writes takes a front of them.
 abbrev pub sending : List ℕ → List ℕ → List ℕ → List Happening
 sending [] bytes front = put bytes ∷ taken front ∷ []
 sending (first ∷ others) bytes front = put bytes ∷ []
 
--- Of a connection to which these bytes were sent these wait, its stream is this one, and may have failed. All else stays.
+-- Of a connection to which these bytes were sent these wait, its stream is this one, and may have
+-- failed. All else stays.
 abbrev pub sent_to : {S : Type 0} → Connection S → List ℕ → List ℕ → Bool → S → Connection S
-sent_to c bytes waiting failed stream = record c { wire = record c.wire { stream = stream; has_failed = failed }; out = waiting; moved = min (c.moved + length bytes) (2 ^ 64 - 1) }
+sent_to c bytes waiting failed stream = record c {
+  wire = record c.wire { stream = stream; has_failed = failed };
+  out = waiting;
+  moved = min (c.moved + length bytes) (2 ^ 64 - 1);
+}
 
 -- Bytes are sent, and all of them that the stream does not take wait.
-pub record Keeps {S : Type 0} (gave wrote : S → Came → S → Type 0) (old : Connection S) (bytes : List ℕ) (new : Connection S) : Type 0 where
+pub record Keeps {S : Type 0} (gave wrote : S → Came → S → Type 0) (old : Connection S)
+    (bytes : List ℕ) (new : Connection S) : Type 0 where
   pub front : List ℕ
   pub waiting : List ℕ
   pub failed : Bool
   pub stream : S
-  pub lives : Lives gave wrote old.out old.wire.has_failed old.wire.stream (sending old.out bytes front) waiting failed stream
+  pub lives : Lives gave wrote old.out old.wire.has_failed old.wire.stream
+      (sending old.out bytes front) waiting failed stream
   pub is : new ≡ sent_to old bytes waiting failed stream
 
--- Bytes are sent, and there is no memory for those that the stream does not take: what waited before still waits, the bytes behind it
--- are lost, and the connection is given up.
-pub record Loses {S : Type 0} (gave wrote : S → Came → S → Type 0) (old : Connection S) (bytes : List ℕ) (new : Connection S) : Type 0 where
+-- Bytes are sent, and there is no memory for those that the stream does not take: what waited
+-- before still waits, the bytes behind it are lost, and the connection is given up.
+pub record Loses {S : Type 0} (gave wrote : S → Came → S → Type 0) (old : Connection S)
+    (bytes : List ℕ) (new : Connection S) : Type 0 where
   pub front : List ℕ
   pub lost : List ℕ
   pub failed : Bool
   pub stream : S
-  pub lives : Lives gave wrote old.out old.wire.has_failed old.wire.stream (sending old.out bytes front) (old.out ++ lost) failed stream
+  pub lives : Lives gave wrote old.out old.wire.has_failed old.wire.stream
+      (sending old.out bytes front) (old.out ++ lost) failed stream
   pub is : new ≡ out_of_memory (sent_to old bytes old.out failed stream)
 
 -- Bytes are sent behind some of which none is lost: they are kept, or the connection is given up.
-abbrev pub KeepsOrLoses : {S : Type 0} → (S → Came → S → Type 0) → (S → Came → S → Type 0) → Connection S → List ℕ → Connection S → Type 0
-KeepsOrLoses gave wrote old bytes new = Keeps gave wrote old bytes new ⊎ Loses gave wrote old bytes new
+abbrev pub KeepsOrLoses : {S : Type 0} → (S → Came → S → Type 0) → (S → Came → S → Type 0)
+    → Connection S → List ℕ → Connection S → Type 0
+KeepsOrLoses gave wrote old bytes new =
+    Keeps gave wrote old bytes new ⊎ Loses gave wrote old bytes new
 
--- Bytes are sent. Behind some that are lost these are lost too: nothing is written, and nothing changes.
-abbrev pub Sends : {S : Type 0} → (S → Came → S → Type 0) → (S → Came → S → Type 0) → Connection S → List ℕ → Connection S → Type 0
-Sends gave wrote old bytes new = OnTrue old.has_gap (new ≡ old) × OnFalse old.has_gap (KeepsOrLoses gave wrote old bytes new)
+-- Bytes are sent. Behind some that are lost these are lost too: nothing is written, and nothing
+-- changes.
+abbrev pub Sends : {S : Type 0} → (S → Came → S → Type 0) → (S → Came → S → Type 0) → Connection S
+    → List ℕ → Connection S → Type 0
+Sends gave wrote old bytes new =
+    OnTrue old.has_gap (new ≡ old) × OnFalse old.has_gap (KeepsOrLoses gave wrote old bytes new)
 
 -- ---- what follows
 
--- Of bytes that are sent and kept: what the stream took, and behind it what waits, is what waited before and behind it these bytes, in
--- order.
+-- Of bytes that are sent and kept: what the stream took, and behind it what waits, is what waited
+-- before and behind it these bytes, in order.
 abbrev pub KeptInOrder : {S : Type 0} → (S → Came → S → Type 0) → (S → Came → S → Type 0) → Type 0
-KeptInOrder {S} gave wrote = (old : Connection S) (bytes : List ℕ) (new : Connection S) (keeps : Keeps gave wrote old bytes new)
+KeptInOrder {S} gave wrote =
+    (old : Connection S) (bytes : List ℕ) (new : Connection S)
+    (keeps : Keeps gave wrote old bytes new)
     → all_taken (sending old.out bytes keeps.front) ++ new.out ≡ old.out ++ bytes
 
 -- Where some are lost, those stand behind all that waits, and the connection is given up.
 abbrev pub LostAtTheEnd : {S : Type 0} → (S → Came → S → Type 0) → (S → Came → S → Type 0) → Type 0
-LostAtTheEnd {S} gave wrote = (old : Connection S) (bytes : List ℕ) (new : Connection S) (loses : Loses gave wrote old bytes new)
-    → (all_taken (sending old.out bytes loses.front) ++ (new.out ++ loses.lost) ≡ old.out ++ bytes) × (new.ending ≡ Gone)
+LostAtTheEnd {S} gave wrote =
+    (old : Connection S) (bytes : List ℕ) (new : Connection S)
+    (loses : Loses gave wrote old bytes new)
+    → (all_taken (sending old.out bytes loses.front) ++ (new.out ++ loses.lost) ≡ old.out ++ bytes)
+    × (new.ending ≡ Gone)
 
 -- Once some are lost, nothing is sent any more.
-abbrev pub NothingBehindALoss : {S : Type 0} → (S → Came → S → Type 0) → (S → Came → S → Type 0) → Type 0
-NothingBehindALoss {S} gave wrote = (old : Connection S) (bytes : List ℕ) (gone : Connection S) (more : List ℕ) (new : Connection S)
-    → Loses gave wrote old bytes gone → Sends gave wrote gone more new → new ≡ gone
+abbrev pub NothingBehindALoss : {S : Type 0}
+    → (S → Came → S → Type 0)
+    → (S → Came → S → Type 0)
+    → Type 0
+NothingBehindALoss {S} gave wrote =
+    (old : Connection S) (bytes : List ℕ) (gone : Connection S) (more : List ℕ) (new : Connection S)
+    → Loses gave wrote old bytes gone
+    → Sends gave wrote gone more new
+    → new ≡ gone

@@ -5,8 +5,8 @@ ghost use Rattle.std.specs.Io.KnownBytes.{Keeps};
 ghost use Rattle.client_conn.specs.Asks.{first_asking};
 ghost use Rattle.client_conn.specs.Feeding.{HasRead};
 ghost use Rattle.client_calls.specs.Calls.{attached, detached, IsNotAttached};
-ghost use Rattle.node_net.specs.Holds.{served_or_short, next_place, ran_of as ran_behind, RunsTo, RunsAtHub, RunsAtShard, HasNoShard, RunsAt, Advances, MadeByHub, OnlyIfPublished};
-ghost use Rattle.node_net.specs.Holds.{names_of, Pops, Closes, ClosesSome, Detaches, LeavesShard};
+ghost use Rattle.node_net.specs.Holds.{served_or_short, next_place, ran_of as ran_behind, RunsTo, RunsAtHub, RunsAtShard, HasNoShard, RunsAt, Advances, AskedOfHub, OnlyIfPublished};
+ghost use Rattle.node_net.specs.Holds.{names_of, Pops, Closes, ClosesSome, Detaches, LeavesShard, KeepsPlace};
 ghost use Rattle.std.specs.Result.{is_ok};
 ghost use Rattle.node_net.specs.declared.client_link.Place.TheVariants.{Shard, Hub};
 ghost use Rattle.node_net.specs.declared.limits.TheConstants.{SHARD_RUN};
@@ -214,7 +214,9 @@ impl<H: HubCalls> HubTally<H> {
 
 // A hub has no connections of its own. Where nothing is counted, nothing was published.
 impl<H: HubCalls> ClientCalls for HubTally<H> {
-    ghost made = { λ before called after. MadeByHub H.published before.hub called after.hub × OnlyIfPublished before.hub before.so_far.is_empty after.hub after.so_far.is_empty };
+    ghost made = { λ before called after.
+        AskedOfHub H.published before.hub called after.hub
+        × OnlyIfPublished before.hub before.so_far.is_empty after.hub after.so_far.is_empty };
 
     fn attach(&mut self) -> Result<ConnId, Failure<Refusal>> {
         Err(Failure::Refused(Refusal::Other))
@@ -329,8 +331,12 @@ impl ClientLink {
         shard: &mut S,
         server: &ServerInfo,
     ) -> Result<ClientLink, Failure<Refusal>>
-        ensures ok { IfOk result (λ link. (S.made shard.old (attached (Ok link.calls.id)) shard.new) × (link.calls.conn.asking ≡ first_asking (record { server = server.now; client_id = link.calls.id }))) }
-        ensures shard { IfOk result (λ link. (link.shard ≡ S.number shard.old) × (link.has_left ≡ false)) }
+        ensures ok { IfOk result (λ link.
+            (S.made shard.old (attached (Ok link.calls.id)) shard.new)
+            × (link.calls.conn.asking
+            ≡ first_asking (record { server = server.now; client_id = link.calls.id }))) }
+        ensures shard { IfOk result (λ link.
+            (link.shard ≡ S.number shard.old) × (link.has_left ≡ false)) }
         ensures err { IfErr result (λ failure. IsNotAttached S.made shard.old failure shard.new) }
     {
         let number = shard.shard();
@@ -356,7 +362,8 @@ impl ClientLink {
 
     /// The client goes with all that waits for it, unless it has left.
     pub fn detach<C: ServerCalls, R: Wait>(&self, rt: &R, node: C) -> Result<(), AllocError>
-        ensures { Detaches C.Shard.made C.Shard.number (C.lacks node) self.now.shard self.now.calls.id self.now.has_left result }
+        ensures { Detaches C.Shard.made C.Shard.number (C.lacks node) self.now.shard
+            self.now.calls.id self.now.has_left result }
     {
         if self.has_left {
             return Ok(());
@@ -375,7 +382,8 @@ impl ClientLink {
         node: C,
         waiting: &mut Vec<u8>,
     ) -> Result<(), AllocError>
-        ensures left { LeavesShard C.Shard.made C.Shard.number (C.lacks node) self.old.shard self.old.calls.id self.old.has_left result self.new.has_left }
+        ensures left { LeavesShard C.Shard.made C.Shard.number (C.lacks node) self.old.shard
+            self.old.calls.id self.old.has_left result self.new.has_left }
         ensures same { self.new ≡ record self.old { has_left = self.new.has_left } }
     {
         match node.shard(rt, self.shard) {
@@ -390,7 +398,10 @@ impl ClientLink {
         shard: &mut S,
         waiting: &mut Vec<u8>,
     ) -> Result<(), AllocError>
-        ensures ok { IfOk result (λ done. (there : _) × (S.number there ≡ S.number shard.old) × S.made there (detached self.old.calls.id (Ok done)) shard.new) }
+        ensures ok { IfOk result (λ done.
+            (there : _)
+            × (S.number there ≡ S.number shard.old)
+            × S.made there (detached self.old.calls.id (Ok done)) shard.new) }
         ensures left { self.new ≡ record self.old { has_left = is_ok result || self.old.has_left } }
     {
         take_all(shard, self.calls.id(), waiting)?;
@@ -401,7 +412,9 @@ impl ClientLink {
 
     /// Closes some of its subscriptions, where there are more than its server tells at once. Whether it did.
     pub fn close_some<C: ServerCalls, R: Wait>(&mut self, rt: &R, node: C) -> bool
-        ensures closed { ClosesSome C.Shard.made C.Shard.number (C.lacks node) self.old.shard self.old.calls.id self.old.has_left (names_of self.old.sids) result (names_of self.new.sids) }
+        ensures closed { ClosesSome C.Shard.made C.Shard.number (C.lacks node) self.old.shard
+            self.old.calls.id self.old.has_left (names_of self.old.sids) result
+            (names_of self.new.sids) }
         ensures same { self.new ≡ record self.old { sids = self.new.sids } }
     {
         if self.has_left || self.sids.len() as u64 <= SHARD_RUN {
@@ -416,9 +429,13 @@ impl ClientLink {
 
     /// Reads once, at most so many bytes.
     pub fn read_from<S: Source>(&mut self, source: &mut S, most: usize) -> Result<usize, ReadFault>
-        ensures ok { IfOk result (λ n. HasRead self.old.calls.conn.asking self.new.calls.conn.asking (S.remaining source.old) (S.remaining source.new) most n) }
-        ensures err { OnErr result ((self.new.calls.conn.asking ≡ self.old.calls.conn.asking) × Keeps (S.remaining source.old) (S.remaining source.new)) }
-        ensures same { (self.new.calls.id ≡ self.old.calls.id) × (self.new.shard ≡ self.old.shard) × (self.new.has_left ≡ self.old.has_left) }
+        ensures ok { IfOk result (λ n.
+            HasRead self.old.calls.conn.asking self.new.calls.conn.asking (S.remaining source.old)
+            (S.remaining source.new) most n) }
+        ensures err { OnErr result ((self.new.calls.conn.asking ≡ self.old.calls.conn.asking)
+            × Keeps (S.remaining source.old) (S.remaining source.new)) }
+        ensures same { (self.new ≡ record self.old { calls = self.new.calls })
+            × (self.new.calls.id ≡ self.old.calls.id) }
     {
         self.calls.read_from(source, most)
     }
@@ -431,8 +448,10 @@ impl ClientLink {
         node: C,
         words: &mut Pcg64,
     ) -> RunOutcome
-        ensures calls { Advances C.Shard.made C.Shard.number (C.lacks node) C.Hub.published C.Hub.pushed self.old.place self.new.place self.old.shard self.old.calls.id result.end self.old.calls.conn.asking self.new.calls.conn.asking }
-        ensures same { (self.new.calls.id ≡ self.old.calls.id) × (self.new.shard ≡ self.old.shard) × (self.new.has_left ≡ self.old.has_left) }
+        ensures calls { Advances C.Shard.made C.Shard.number (C.lacks node) C.Hub.published
+            C.Hub.pushed self.old.place self.new.place self.old.shard self.old.calls.id result.end
+            self.old.calls.conn.asking self.new.calls.conn.asking }
+        ensures same { KeepsPlace self.old self.new }
     {
         let before = self.place;
         let run = self.run(rt, node, words);
@@ -445,8 +464,10 @@ impl ClientLink {
 
     /// A run at the place where the next ask is asked first.
     fn run<C: ServerCalls, R: Wait>(&mut self, rt: &R, node: C, words: &mut Pcg64) -> RunOutcome
-        ensures calls { RunsAt C.Shard.made C.Shard.number (C.lacks node) C.Hub.published C.Hub.pushed self.old.place self.new.place self.old.shard self.old.calls.id result.end self.old.calls.conn.asking self.new.calls.conn.asking }
-        ensures same { (self.new.calls.id ≡ self.old.calls.id) × (self.new.shard ≡ self.old.shard) × (self.new.has_left ≡ self.old.has_left) }
+        ensures calls { RunsAt C.Shard.made C.Shard.number (C.lacks node) C.Hub.published
+            C.Hub.pushed self.old.place self.new.place self.old.shard self.old.calls.id result.end
+            self.old.calls.conn.asking self.new.calls.conn.asking }
+        ensures same { KeepsPlace self.old self.new }
     {
         match self.place {
             Place::Shard => self.ask(rt, node),
@@ -456,8 +477,9 @@ impl ClientLink {
 
     /// Publishes what is asked up to another ask, at most a window.
     fn publish<C: ServerCalls, R: Wait>(&mut self, rt: &R, node: C, words: &mut Pcg64) -> RunOutcome
-        ensures calls { RunsAtHub C.Hub.published C.Hub.pushed self.old.place self.new.place self.old.calls.id result.end self.old.calls.conn.asking self.new.calls.conn.asking }
-        ensures same { (self.new.calls.id ≡ self.old.calls.id) × (self.new.shard ≡ self.old.shard) × (self.new.has_left ≡ self.old.has_left) }
+        ensures calls { RunsAtHub C.Hub.published C.Hub.pushed self.old.place self.new.place
+            self.old.calls.id result.end self.old.calls.conn.asking self.new.calls.conn.asking }
+        ensures same { KeepsPlace self.old self.new }
     {
         let own = Pcg64::from_state(words.state(), words.stream());
         let mut tally = HubTally::new(node.hub(rt), own);
@@ -471,9 +493,11 @@ impl ClientLink {
 
     /// Publishes to the hub, which is held, what is asked up to another ask.
     fn publish_held<H: HubCalls>(&mut self, tally: &mut HubTally<H>) -> RunOutcome
-        ensures calls { RunsTo (MadeByHub H.published) self.old.calls.id WINDOW self.old.place Shard self.new.place result.end self.old.calls.conn.asking tally.old.hub self.new.calls.conn.asking tally.new.hub }
+        ensures calls { RunsTo (AskedOfHub H.published) self.old.calls.id WINDOW self.old.place
+            Shard self.new.place result.end self.old.calls.conn.asking tally.old.hub
+            self.new.calls.conn.asking tally.new.hub }
         ensures empty { result.is_empty ≡ true → tally.new.hub ≡ tally.old.hub }
-        ensures same { (self.new.calls.id ≡ self.old.calls.id) × (self.new.shard ≡ self.old.shard) × (self.new.has_left ≡ self.old.has_left) }
+        ensures same { KeepsPlace self.old self.new }
     {
         let served = served_of(self.calls.serve(tally, WINDOW));
         self.turn_to(Place::Shard, served);
@@ -482,10 +506,15 @@ impl ClientLink {
 
     /// Asks its shard, up to a publication.
     fn ask<C: ServerCalls, R: Wait>(&mut self, rt: &R, node: C) -> RunOutcome
-        ensures calls { RunsAtShard C.Shard.made C.Shard.number self.old.place self.new.place self.old.shard self.old.calls.id result.end self.old.calls.conn.asking self.new.calls.conn.asking ⊎ HasNoShard (C.lacks node) self.old.place self.new.place self.old.shard result.end self.old.calls.conn.asking self.new.calls.conn.asking }
-        ensures same { (self.new.calls.id ≡ self.old.calls.id) × (self.new.shard ≡ self.old.shard) × (self.new.has_left ≡ self.old.has_left) }
+        ensures calls { RunsAtShard C.Shard.made C.Shard.number self.old.place self.new.place
+            self.old.shard self.old.calls.id result.end self.old.calls.conn.asking
+            self.new.calls.conn.asking
+            ⊎ HasNoShard (C.lacks node) self.old.place self.new.place self.old.shard result.end
+            self.old.calls.conn.asking self.new.calls.conn.asking }
+        ensures same { KeepsPlace self.old self.new }
     {
-        match node.shard(rt, self.shard) {
+        let held = node.shard(rt, self.shard);
+        match held {
             None => RunOutcome::of(Ran::Refused),
             Some(shard) => {
                 let sids = std::mem::replace(&mut self.sids, Sids::new(self.alloc));
@@ -497,8 +526,10 @@ impl ClientLink {
 
     /// Asks its shard, which is held, up to a publication.
     fn ask_held<S: ShardCalls>(&mut self, tally: &mut ShardTally<S>) -> RunOutcome
-        ensures calls { RunsTo S.made self.old.calls.id SHARD_RUN self.old.place Hub self.new.place result.end self.old.calls.conn.asking tally.old.shard self.new.calls.conn.asking tally.new.shard }
-        ensures same { (self.new.calls.id ≡ self.old.calls.id) × (self.new.shard ≡ self.old.shard) × (self.new.has_left ≡ self.old.has_left) }
+        ensures calls { RunsTo S.made self.old.calls.id SHARD_RUN self.old.place Hub self.new.place
+            result.end self.old.calls.conn.asking tally.old.shard self.new.calls.conn.asking
+            tally.new.shard }
+        ensures same { KeepsPlace self.old self.new }
     {
         let served = served_of(self.calls.serve(tally, SHARD_RUN));
         self.turn_to(Place::Hub, served);

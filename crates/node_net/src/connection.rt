@@ -1,15 +1,15 @@
 //! A connection of a server: its stream, and what is read of it and written to it.
 
-ghost use Rattle.std.specs.Prelude.{◌≡◌, ◌↔◌, ◌-◌, ◌^◌, min, if◌then◌else◌, true, false, ◌||◌, nat_lt, [], length, IfSome, IsTrue};
+ghost use Rattle.std.specs.Prelude.{◌≡◌, ◌↔◌, ◌⊎◌, ◌-◌, ◌^◌, min, if◌then◌else◌, true, false, ◌||◌, nat_lt, [], length, IfSome, IfNone, IsTrue};
 ghost use Rattle.std.specs.Bool.{OnTrue, OnFalse};
 ghost use Rattle.net_streams.specs.Writes.{HasWritten};
-ghost use Rattle.node_net.specs.Holds.{LinkAdvances, LinkDetaches};
-ghost use Rattle.node_net.specs.Sending.{Sends, KeepsOrLoses, out_of_memory, closed_if_written};
+ghost use Rattle.node_net.specs.Holds.{is_proving as proving, LinkAdvances, LinkDetaches, LinkLeaves, LinkCloses, LeavesAndSends};
+ghost use Rattle.node_net.specs.Sending.{ending_of, Sends, KeepsOrLoses, out_of_memory, closed_if_written};
 
 use crate::client_link::ClientLink;
 use crate::handshake::Proving;
 use crate::limits::{FIRST_READ, IDLE_BYTES, READ_GROWTH};
-use crate::route_link::{RouteLink, Stepped, cut};
+use crate::route_link::{RouteLink, Stepped};
 use client_conn::ReadFault;
 use net_streams::{Outgoing, Stream, Wire};
 use peer_proof::Secret;
@@ -283,9 +283,18 @@ impl<S: Stream> Connection<S> {
         life: &Life,
         words: &mut Pcg64,
     ) -> Option<Stepped>
-        ensures client { IfSome result (λ stepped. LinkAdvances C.Shard.made C.Shard.number (C.lacks node) C.Hub.published C.Hub.pushed self.old.link stepped self.new.link) }
+        ensures calls { IfSome result (λ stepped.
+            LinkAdvances C.Shard.made C.Shard.number (C.lacks node) C.Hub.published C.Hub.pushed
+            C.Hub.routed life.now self.old.link stepped self.new.link) }
+        ensures none { IfNone result ((self.new ≡ self.old)
+            × ((proving self.old.link ≡ true) ⊎ ¬ (ending_of self.old ≡ Ending.Open))) }
+        ensures same { self.new
+            ≡ record self.old { link = self.new.link; is_short = self.new.is_short } }
     {
-        if self.ending() != Ending::Open || self.is_proving() {
+        if self.ending() != Ending::Open {
+            return None;
+        }
+        if self.is_proving() {
             return None;
         }
         self.is_short = false;
@@ -304,10 +313,12 @@ impl<S: Stream> Connection<S> {
     }
 
     /// Whether it is a route whose handshake is not over.
-    pub fn is_proving(&self) -> bool {
-        match self.route() {
-            None => false,
-            Some(route) => route.is_proving(),
+    pub fn is_proving(&self) -> bool
+        ensures { result ≡ proving self.now.link }
+    {
+        match &self.link {
+            Link::Client(_) => false,
+            Link::Route(route) => route.is_proving(),
         }
     }
 
@@ -350,7 +361,7 @@ impl<S: Stream> Connection<S> {
 
     /// Whether it goes on.
     pub fn ending(&self) -> Ending
-        ensures { result ≡ (if self.now.wire.has_failed then Ending.Gone else self.now.ending) }
+        ensures { result ≡ ending_of self.now }
     {
         if self.wire.has_failed() {
             return Ending::Gone;
@@ -385,12 +396,16 @@ impl<S: Stream> Connection<S> {
     }
 
     /// A client leaves its shard, and has what waits for it sent to it, which stands in the list then.
+    #[tactic(auto, using(crate::proofs::HoldLemmas::leaves_and_sends))]
     pub fn leave<C: ServerCalls, R: Wait>(
         &mut self,
         rt: &R,
         node: C,
         waiting: &mut Vec<u8>,
-    ) -> Result<(), AllocError> {
+    ) -> Result<(), AllocError>
+        ensures { LeavesAndSends C.Shard.made C.Shard.number (C.lacks node) S.gave S.wrote self.old
+            result waiting.new.items self.new }
+    {
         let left = match &mut self.link {
             Link::Client(client) => client.leave(rt, node, waiting),
             Link::Route(_) => Ok(()),
@@ -400,7 +415,11 @@ impl<S: Stream> Connection<S> {
     }
 
     /// Closes some of the subscriptions of a client that has many. Whether it did.
-    pub fn close_some<C: ServerCalls, R: Wait>(&mut self, rt: &R, node: C) -> bool {
+    pub fn close_some<C: ServerCalls, R: Wait>(&mut self, rt: &R, node: C) -> bool
+        ensures closed { LinkCloses C.Shard.made C.Shard.number (C.lacks node) self.old.link result
+            self.new.link }
+        ensures same { self.new ≡ record self.old { link = self.new.link } }
+    {
         match &mut self.link {
             Link::Client(client) => client.close_some(rt, node),
             Link::Route(_) => false,
@@ -500,7 +519,8 @@ impl<S: Stream> Connection<S> {
 
     /// Its stream is to be connected still: it is given up at this time, or earlier where it would have been.
     pub fn await_stream(&mut self, deadline: u64)
-        ensures { self.new ≡ record self.old { awaits_stream = true; deadline = min self.old.deadline deadline } }
+        ensures { self.new
+            ≡ record self.old { awaits_stream = true; deadline = min self.old.deadline deadline } }
     {
         self.awaits_stream = true;
         self.limit(deadline);
@@ -508,7 +528,10 @@ impl<S: Stream> Connection<S> {
 
     /// Its stream is connected. Where it was to be still, it is given up at this time in place of the one before.
     pub fn connected(&mut self, deadline: u64)
-        ensures { self.new ≡ (if self.old.awaits_stream then record self.old { awaits_stream = false; deadline = deadline } else self.old) }
+        ensures { self.new
+            ≡ (if self.old.awaits_stream
+            then record self.old { awaits_stream = false; deadline = deadline }
+            else self.old) }
     {
         if std::mem::replace(&mut self.awaits_stream, false) {
             self.deadline = deadline;
@@ -540,14 +563,13 @@ impl<S: Stream> Connection<S> {
 
     /// A client is detached, the session of a route is cut. Want of memory changes nothing.
     pub fn detach<C: ServerCalls, R: Wait>(&self, rt: &R, node: C) -> Result<(), AllocError>
-        ensures client { LinkDetaches C.Shard.made C.Shard.number (C.lacks node) self.now.link result }
+        ensures { LinkDetaches C.Shard.made C.Shard.number (C.lacks node) C.Hub.routed self.now.link
+            result }
     {
         match &self.link {
             Link::Client(client) => client.detach(rt, node),
             Link::Route(route) => {
-                if let Some(session) = route.session {
-                    cut(rt, node, session);
-                }
+                route.end(rt, node);
                 Ok(())
             }
         }
@@ -651,7 +673,9 @@ impl<S: Stream> Connection<S> {
 
     /// Sends what was taken for it. It is given up once it is to be closed and all is written.
     pub fn send_taken(&mut self, bytes: &[u8])
-        ensures { (sent : Connection S) × Sends S.gave S.wrote self.old bytes.now sent × (self.new ≡ closed_if_written sent) }
+        ensures { (sent : Connection S)
+            × Sends S.gave S.wrote self.old bytes.now sent
+            × (self.new ≡ closed_if_written sent) }
     {
         self.send(bytes);
         self.close_if_written();
@@ -680,9 +704,18 @@ impl<S: Stream> Connection<S> {
 
     /// Writes what was kept, as far as the stream takes it.
     pub fn resume(&mut self)
-        ensures written { HasWritten S.wrote self.old.out self.old.wire.has_failed self.old.wire.stream self.new.out self.new.wire.has_failed self.new.wire.stream }
-        ensures moved { self.new.has_moved ≡ (self.old.has_moved || nat_lt (length self.new.out) (length self.old.out)) }
-        ensures others { self.new ≡ record self.old { wire = record self.old.wire { stream = self.new.wire.stream; has_failed = self.new.wire.has_failed }; out = self.new.out; has_moved = self.new.has_moved } }
+        ensures written { HasWritten S.wrote self.old.out self.old.wire.has_failed
+            self.old.wire.stream self.new.out self.new.wire.has_failed self.new.wire.stream }
+        ensures moved { self.new.has_moved
+            ≡ (self.old.has_moved || nat_lt (length self.new.out) (length self.old.out)) }
+        ensures others { self.new ≡ record self.old {
+          wire = record self.old.wire {
+            stream = self.new.wire.stream;
+            has_failed = self.new.wire.has_failed;
+          };
+          out = self.new.out;
+          has_moved = self.new.has_moved;
+        } }
     {
         let before = self.out.len();
         self.out.write_to(&mut self.wire);

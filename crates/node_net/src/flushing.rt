@@ -1,5 +1,11 @@
 //! What was put for clients and other servers is taken and written.
 
+ghost use Rattle.std.specs.Prelude.{◌≡◌, ◌++◌, OnOk};
+ghost use Rattle.route_frames.specs.Canonical.{frame_bytes};
+ghost use Rattle.route_values.specs.declared.frames.RouteFrame.TheVariants as route;
+ghost use Rattle.server_calls.specs.Routed.{took, taken_of, WasRouted};
+ghost use Rattle.node_net.specs.Telling.{spelling};
+
 use crate::connection::{Cause, Ending};
 use crate::connections::Connections;
 use crate::limits::{FRAMES, PEER_BACKLOG, TAKEN_AT_ONCE};
@@ -197,7 +203,10 @@ fn frames_of<H: HubCalls>(
     alloc: Global,
     peer: usize,
     count: usize,
-) -> Result<Vec<Numbered>, AllocError> {
+) -> Result<Vec<Numbered>, AllocError>
+    ensures { H.routed hub.old (took peer count (taken_of (λ frames. frames.items) result))
+        hub.new }
+{
     match hub.take_frames(peer, count) {
         Ok(frames) => Ok(frames),
         Err(Failure::Refused(_)) => Ok(Vec::new(alloc)),
@@ -212,7 +221,9 @@ fn take_frames<C: ServerCalls, R: Wait>(
     alloc: Global,
     peer: usize,
     count: usize,
-) -> Result<Vec<Numbered>, AllocError> {
+) -> Result<Vec<Numbered>, AllocError>
+    ensures { WasRouted C.Hub.routed (took peer count (taken_of (λ frames. frames.items) result)) }
+{
     let mut hub = node.hub(rt);
     frames_of(&mut hub, alloc, peer, count)
 }
@@ -230,12 +241,18 @@ fn swap_dirty_conns<C: ServerCalls, R: Wait>(
 }
 
 /// Encodes a frame behind what is encoded.
-fn encode_frame(frame: Numbered, encoded: &mut Vec<u8>) -> Result<(), AllocError> {
+fn encode_frame(frame: Numbered, encoded: &mut Vec<u8>) -> Result<(), AllocError>
+    ensures { OnOk result
+        (encoded.new.items ≡ encoded.old.items ++ frame_bytes (route.Numbered frame)) }
+{
     encode(&RouteFrame::Numbered(frame), encoded)
 }
 
 /// Encodes frames behind what is encoded.
-fn encode_frames(frames: Vec<Numbered>, encoded: &mut Vec<u8>) -> Result<(), AllocError> {
+#[tactic(auto, using(crate::proofs::TellingLemmas::spelling_more, crate::proofs::TellingLemmas::spelling_none))]
+fn encode_frames(frames: Vec<Numbered>, encoded: &mut Vec<u8>) -> Result<(), AllocError>
+    ensures { OnOk result (encoded.new.items ≡ encoded.old.items ++ spelling frames.items) }
+{
     for frame in frames {
         encode_frame(frame, encoded)?;
     }

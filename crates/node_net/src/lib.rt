@@ -11,12 +11,12 @@
 //! The server is whatever makes the calls of `server_calls`.
 //!
 //! In reading order: `client_link` and `route_link` make calls of what was read, and tell what they have come to (`runs`); a `handshake` is what a
-//! route begins with where the mesh has a secret, and `proving` is what the server does of it; `connection` has one of them with its stream, and
-//! `laws` says that what is sent to it keeps its order; `connections` has all of them, and what is noted of each until it is done; `server` takes
-//! them and lets them go, and finds those of clients (`clients`) and of other servers (`peers`); `turning` and `flushing` are a turn of its loop,
-//! by what was `taken` for clients, `draining` is what a server that drains does, and `running` is the loop, which reaches other servers at their
-//! `addresses`, and is told by operators over a `control` socket. `shutdown` says when the loop ends, and which server drains, the `limits`
-//! when and how much of everything, and `faults` why no stream is taken. `turns` says that the turns of a client are runs of its life.
+//! route begins with where the mesh has a secret, and `proving` is what the server does of it; `connection` has one of them with its stream; `laws`
+//! says that what is sent to it keeps its order, and that the turns of a client are runs of its life; `connections` has all of them, and what is
+//! noted of each until it is done; `server` takes them and lets them go, and finds those of clients (`clients`) and of other servers (`peers`);
+//! `turning` and `flushing` are a turn of its loop, by what was `taken` for clients, `draining` is what a server that drains does, and `running` is
+//! the loop, which reaches other servers at their `addresses`, and is told by operators over a `control` socket. `shutdown` says when the loop ends,
+//! and which server drains, the `limits` when and how much of everything, and `faults` why no stream is taken.
 #![tactic(auto)]
 
 mod addresses;
@@ -41,14 +41,12 @@ mod server;
 mod shutdown;
 mod taken;
 mod turning;
-mod turns;
 
 pub use addresses::PeerAddresses;
 pub use control::{Control, DRAIN, DRAINS, NO_SERVER};
 pub use faults::AddFault;
-pub use laws::sent_bytes_keep_their_order;
+pub use laws::{sent_bytes_keep_their_order, turns_are_served};
 pub use net_streams::{MemStream, Stream, StreamFault};
 pub use running::{Sockets, WAKER};
 pub use server::{Server, Side, shard_of_client};
 pub use shutdown::{ServerControl, Shutdown};
-pub use turns::turns_are_served;

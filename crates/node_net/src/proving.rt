@@ -51,8 +51,10 @@ impl Guard {
 
     /// The other end of a connection is a stranger, which came last. Where all places were taken, the first one loses its own: gives its connection.
     fn take_stranger(&mut self, key: usize) -> Option<usize>
-        ensures room { IfNone result (self.new.strangers.items ≡ self.old.strangers.items ++ key ∷ []) }
-        ensures full { IfSome result (λ first. first ∷ self.new.strangers.items ≡ self.old.strangers.items ++ key ∷ []) }
+        ensures room { IfNone result
+            (self.new.strangers.items ≡ self.old.strangers.items ++ key ∷ []) }
+        ensures full { IfSome result (λ first.
+            first ∷ self.new.strangers.items ≡ self.old.strangers.items ++ key ∷ []) }
     {
         let first = if self.strangers.is_full() {
             Some(self.strangers.remove(0))

@@ -1,5 +1,17 @@
 //! A route: a connection to another server, cut into frames.
 
+ghost use Rattle.std.specs.Prelude.{◌≡◌, true, false, if◌then◌else◌, None, Some, Err, is_some, IfSome, IfErr, OnErr};
+ghost use Rattle.subj.specs.declared.failures.Failure.TheVariants as failure;
+ghost use Rattle.std.specs.Bool.{OnTrue, OnFalse};
+ghost use Rattle.server_calls.specs.Routed.{informed, connected, was_cut, WasRouted};
+ghost use Rattle.subj.specs.declared.limits.TheConstants.{WINDOW};
+ghost use Rattle.std.specs.Option.{option_zip};
+ghost use Rattle.node_net.specs.Routes.{place_of, dialed_place, has_proved_other as proved_other, is_of_life as of_life, IsOfPeer};
+ghost use Rattle.node_net.specs.Routes.{is_done, end_of_refusal, end_behind, end_of as ran_behind, EndsReading, IsKept, told_by, Looks, ReadsOn, ReadsBehind};
+ghost use Rattle.node_net.specs.Routes.{Applies, AppliesAhead, HandsNext, HasReceived, ReceivesAtHub, TakesInfo, TakesConnect, TakesConnectOf, Takes, Advances, CutsSession};
+ghost use Rattle.node_net.specs.declared.route_link.Stepped.TheVariants as step;
+ghost use Rattle.node_net.specs.declared.runs.RunOutcome.{RunOutcome};
+
 use crate::handshake::{Handshake, Proving};
 use crate::placing::put;
 use crate::runs::{Ran, RunOutcome, cost_of};
@@ -48,13 +60,32 @@ pub(crate) enum Stepped {
     Greeted(Greeted),
 }
 
+impl Stepped {
+    /// A run that has done nothing, and came to this.
+    fn ended(end: Ran) -> Stepped
+        ensures { (run : RunOutcome) × (result ≡ step.Ran run) × (run.end ≡ end) }
+    {
+        Stepped::Ran(RunOutcome::of(end))
+    }
+}
+
+/// What a frame tells of the other end.
+#[derive(Clone, Copy)]
+enum Told {
+    Info(RouteInfo),
+    Connect(RouteConnect),
+    Nothing,
+}
+
 /// What has become of a frame that was to be received.
-enum Heard {
-    /// It was taken, and counts as so many bytes, or it had come before.
-    Done(usize),
-    /// It was taken, counts as so many bytes, and is of another life of the server than the session: the route is closed.
-    Last(usize),
-    Ended(Ran),
+#[derive(Clone, Copy)]
+struct Heard {
+    /// Whether it is done with: it was taken, or had come before.
+    is_done: bool,
+    /// As how many bytes it counts.
+    bytes: usize,
+    /// How the run ends behind it; None: it goes on.
+    end: Option<Ran>,
 }
 
 /// A route and its session.
@@ -91,7 +122,9 @@ fn cutter_of(alloc: Global, is_proving: bool) -> Cutter {
 }
 
 /// What a refusal of a route's frame means, of its hub or its sessions, or want of memory.
-fn end_of<F: Drop>(fault: Failure<F>) -> Ran {
+fn end_of<F: Drop>(fault: Failure<F>) -> Ran
+    ensures { result ≡ ran_behind fault }
+{
     match fault {
         Failure::OutOfMemory => Ran::Short,
         Failure::Refused(_) => Ran::Refused,
@@ -99,7 +132,9 @@ fn end_of<F: Drop>(fault: Failure<F>) -> Ran {
 }
 
 /// The session ends, where it stands.
-pub(crate) fn cut<C: ServerCalls, R: Wait>(rt: &R, node: C, session: SessionId) {
+pub(crate) fn cut<C: ServerCalls, R: Wait>(rt: &R, node: C, session: SessionId)
+    ensures { WasRouted C.Hub.routed (was_cut session) }
+{
     let mut hub = node.hub(rt);
     hub.cut(session);
 }
@@ -110,7 +145,9 @@ fn answer_to<C: ServerCalls, R: Wait>(
     node: C,
     session: SessionId,
     info: &RouteInfo,
-) -> Result<RouteConnect, Failure<SessionFault>> {
+) -> Result<RouteConnect, Failure<SessionFault>>
+    ensures { WasRouted C.Hub.routed (informed session info.now result) }
+{
     let mut hub = node.hub(rt);
     hub.info(session, info)
 }
@@ -121,7 +158,9 @@ fn connect<C: ServerCalls, R: Wait>(
     node: C,
     session: SessionId,
     connect: &RouteConnect,
-) -> Result<(), Failure<SessionFault>> {
+) -> Result<(), Failure<SessionFault>>
+    ensures { WasRouted C.Hub.routed (connected session connect.now result) }
+{
     let mut hub = node.hub(rt);
     hub.connect(session, connect)
 }
@@ -135,24 +174,61 @@ fn weight_of(frame: &Numbered) -> usize {
 }
 
 impl Heard {
-    /// Whether the frame is done with.
-    fn is_taken(&self) -> bool {
-        match self {
-            Heard::Done(_) | Heard::Last(_) => true,
-            Heard::Ended(_) => false,
+    /// It was taken, and counts as so many bytes. One that is of another life of the server than the session is the last.
+    fn taken(bytes: usize, is_of_life: bool) -> Heard
+        ensures done { result.is_done ≡ true }
+        ensures end { result.end ≡ (if is_of_life then None else Some Ran.Refused) }
+    {
+        Heard {
+            is_done: true,
+            bytes,
+            end: if is_of_life { None } else { Some(Ran::Refused) },
         }
+    }
+
+    /// Nothing was received, for this.
+    fn nothing(end: Ran) -> Heard
+        ensures done { result.is_done ≡ false }
+        ensures end { result.end ≡ Some end }
+    {
+        Heard {
+            is_done: false,
+            bytes: 0,
+            end: Some(end),
+        }
+    }
+}
+
+/// What has become of a frame that the hub refuses: one that had come before is done with.
+fn heard_of_refusal(fault: HubFault) -> Heard
+    ensures done { result.is_done ≡ is_done (Err (failure.Refused fault)) }
+    ensures end { result.end ≡ end_of_refusal fault }
+{
+    match fault {
+        HubFault::Late => Heard::taken(0, true),
+        HubFault::Busy(_) => Heard::nothing(Ran::Busy),
+        HubFault::Draining
+        | HubFault::TooManyQueues
+        | HubFault::Spent
+        | HubFault::NotMe
+        | HubFault::OtherMe
+        | HubFault::NotInCluster
+        | HubFault::StaleOrigin
+        | HubFault::Gap
+        | HubFault::BadInterest => Heard::nothing(Ran::Refused),
     }
 }
 
 /// What has become of a frame that counts as so many bytes, and may be of the life of the server that the session is kept with, by what the
 /// hub made of it.
-fn heard_of(done: Result<(), Failure<HubFault>>, bytes: usize, is_of_life: bool) -> Heard {
+fn heard_of(done: Result<(), Failure<HubFault>>, bytes: usize, is_of_life: bool) -> Heard
+    ensures done { result.is_done ≡ is_done done }
+    ensures end { result.end ≡ end_behind is_of_life done }
+{
     match done {
-        Ok(()) if is_of_life => Heard::Done(bytes),
-        Ok(()) => Heard::Last(bytes),
-        Err(Failure::Refused(HubFault::Late)) => Heard::Done(0),
-        Err(Failure::Refused(HubFault::Busy(_))) => Heard::Ended(Ran::Busy),
-        Err(fault) => Heard::Ended(end_of(fault)),
+        Ok(()) => Heard::taken(bytes, is_of_life),
+        Err(Failure::Refused(fault)) => heard_of_refusal(fault),
+        Err(Failure::OutOfMemory) => Heard::nothing(Ran::Short),
     }
 }
 
@@ -177,7 +253,9 @@ impl RouteLink {
     }
 
     /// Whether its handshake is not over.
-    pub fn is_proving(&self) -> bool {
+    pub fn is_proving(&self) -> bool
+        ensures { result ≡ is_some self.now.proof }
+    {
         self.proof.is_some()
     }
 
@@ -260,6 +338,16 @@ impl RouteLink {
         }
     }
 
+    /// Its session ends, where it has one.
+    pub fn end<C: ServerCalls, R: Wait>(&self, rt: &R, node: C)
+        ensures { CutsSession C.Hub.routed self.now.session }
+    {
+        match self.session {
+            None => {}
+            Some(session) => cut(rt, node, session),
+        }
+    }
+
     /// Whether its session is kept.
     pub fn is_kept(&self) -> bool {
         matches!(self.stage, Stage::Kept { .. })
@@ -285,7 +373,10 @@ impl RouteLink {
     }
 
     /// The next line, which is used up once it was read; where there is none, what a run comes to for that.
-    fn next_line(&mut self) -> Result<RouteLine, Ran> {
+    fn next_line(&mut self) -> Result<RouteLine, Ran>
+        ensures same { ReadsBehind self.old self.new }
+        ensures err { IfErr result EndsReading }
+    {
         let (size, line) = match self.cutter.peek() {
             Ok(None) => return Err(Ran::Waits),
             Ok(Some(Piece::Line(line))) => match RouteLine::read(self.alloc, line) {
@@ -300,7 +391,10 @@ impl RouteLink {
     }
 
     /// The payload of the line that was read.
-    fn next_payload(&mut self) -> Result<Bytes, Ran> {
+    fn next_payload(&mut self) -> Result<Bytes, Ran>
+        ensures same { ReadsBehind self.old self.new }
+        ensures err { IfErr result EndsReading }
+    {
         let (size, payload) = match self.cutter.peek() {
             Ok(None) => return Err(Ran::Waits),
             Ok(Some(Piece::Payload(payload))) => {
@@ -316,7 +410,10 @@ impl RouteLink {
     }
 
     /// A payload of so many bytes has to come.
-    fn expect(&mut self, size: u64) -> Result<(), Ran> {
+    fn expect(&mut self, size: u64) -> Result<(), Ran>
+        ensures same { ReadsBehind self.old self.new }
+        ensures err { IfErr result EndsReading }
+    {
         if !self.cutter.after_line() {
             return Err(Ran::Refused);
         }
@@ -327,7 +424,10 @@ impl RouteLink {
     }
 
     /// Reads the next line, and announces its payload.
-    fn begin_frame(&mut self) -> Result<(), Ran> {
+    fn begin_frame(&mut self) -> Result<(), Ran>
+        ensures same { ReadsBehind self.old self.new }
+        ensures err { IfErr result EndsReading }
+    {
         let line = self.next_line()?;
         match line.payload_size() {
             None => {
@@ -342,7 +442,11 @@ impl RouteLink {
     }
 
     /// Joins a line and its payload.
-    fn join(&mut self, line: RouteLine, payload: Bytes) -> Result<(), Ran> {
+    fn join(&mut self, line: RouteLine, payload: Bytes) -> Result<(), Ran>
+        ensures same { ReadsOn self.old self.new }
+        ensures err { IfErr result EndsReading }
+        ensures ahead { OnErr result (self.new.ahead ≡ self.old.ahead) }
+    {
         match line.into_frame(self.alloc, payload) {
             Ok(frame) => {
                 put(&mut self.ahead, Some(frame));
@@ -357,7 +461,11 @@ impl RouteLink {
     }
 
     /// Goes on with the frame that is to be taken next.
-    fn read_part(&mut self) -> Result<(), Ran> {
+    fn read_part(&mut self) -> Result<(), Ran>
+        ensures same { ReadsOn self.old self.new }
+        ensures err { IfErr result EndsReading }
+        ensures ahead { OnErr result (self.new.ahead ≡ self.old.ahead) }
+    {
         if let Some((line, payload)) = self.unjoined.take() {
             return self.join(line, payload);
         }
@@ -372,7 +480,10 @@ impl RouteLink {
     }
 
     /// Reads the frame that is to be taken next, unless it was read. Tells why it is not there.
-    fn look_ahead(&mut self) -> Option<Ran> {
+    #[tactic(auto, using(crate::proofs::RouteLemmas::looks_not, crate::proofs::RouteLemmas::looks_more, crate::proofs::RouteLemmas::looks_there, crate::proofs::RouteLemmas::looks_in_vain, crate::proofs::RouteLemmas::looks_failed))]
+    fn look_ahead(&mut self) -> Option<Ran>
+        ensures { Looks self.old result self.new }
+    {
         for _part in 0..3 {
             if self.ahead.is_some() {
                 return None;
@@ -382,56 +493,89 @@ impl RouteLink {
                 Err(end) => return Some(end),
             }
         }
-        self.ahead.is_none().then_some(Ran::Goes)
+        if self.ahead.is_some() {
+            None
+        } else {
+            Some(Ran::Goes)
+        }
     }
 
     /// Takes the next frame, or the numbered frames up to another one under one hold of the hub's lock.
     /// Frames before the session is kept, and those of another server than it is kept with, are refused.
-    pub fn advance<C: ServerCalls, R: Wait>(&mut self, rt: &R, node: C, life: &Life) -> Stepped {
-        if let Some(end) = self.look_ahead() {
-            return Stepped::Ran(RunOutcome::of(end));
-        }
-        if let Some(info) = self.info_ahead() {
-            return self.greet_back(rt, node, info);
-        }
-        if let Some(connect) = self.connect_ahead() {
-            return self.complete(rt, node, life, connect);
-        }
-        Stepped::Ran(self.receive(rt, node, life))
-    }
-
-    /// The `INFO` that is to be taken next.
-    fn info_ahead(&self) -> Option<RouteInfo> {
-        match &self.ahead {
-            Some(RouteFrame::Info(info)) => Some(*info),
-            _ => None,
+    #[tactic(auto, using(crate::proofs::RouteLemmas::advances_on, crate::proofs::RouteLemmas::advances_not))]
+    pub fn advance<C: ServerCalls, R: Wait>(&mut self, rt: &R, node: C, life: &Life) -> Stepped
+        ensures { Advances C.Hub.routed C.Hub.pushed life.now self.old result self.new }
+    {
+        match self.look_ahead() {
+            Some(end) => Stepped::ended(end),
+            None => self.take_ahead(rt, node, life),
         }
     }
 
-    /// The `CONNECT` that is to be taken next.
-    fn connect_ahead(&self) -> Option<RouteConnect> {
+    /// Takes the frame that is to be taken next.
+    #[tactic(auto, using(crate::proofs::RouteLemmas::takes_info, crate::proofs::RouteLemmas::takes_connect, crate::proofs::RouteLemmas::takes_numbered))]
+    fn take_ahead<C: ServerCalls, R: Wait>(&mut self, rt: &R, node: C, life: &Life) -> Stepped
+        ensures { IfSome self.old.ahead
+            (λ frame. Takes C.Hub.routed C.Hub.pushed life.now frame self.old result self.new) }
+    {
+        match self.told_ahead() {
+            Told::Info(info) => self.greet_back(rt, node, info),
+            Told::Connect(connect) => self.complete(rt, node, life, connect),
+            Told::Nothing => Stepped::Ran(self.receive(rt, node, life)),
+        }
+    }
+
+    /// What the frame that is to be taken next tells of the other end.
+    fn told_ahead(&self) -> Told
+        ensures { result ≡ told_by self.now.ahead }
+    {
         match &self.ahead {
-            Some(RouteFrame::Connect(connect)) => Some(*connect),
-            _ => None,
+            Some(RouteFrame::Info(info)) => Told::Info(*info),
+            Some(RouteFrame::Connect(connect)) => Told::Connect(*connect),
+            Some(RouteFrame::Numbered(_)) => Told::Nothing,
+            None => Told::Nothing,
+        }
+    }
+
+    /// The server that was dialed, and its session.
+    fn dialed(&self) -> Option<(usize, SessionId)>
+        ensures { result ≡ option_zip (dialed_place self.now.stage) self.now.session }
+    {
+        match self.stage {
+            Stage::Dialed(peer) => Some(peer).zip(self.session),
+            Stage::Accepted { .. } => None,
+            Stage::Kept { .. } => None,
         }
     }
 
     /// The server that was dialed has told who it is.
-    fn greet_back<C: ServerCalls, R: Wait>(&mut self, rt: &R, node: C, info: RouteInfo) -> Stepped {
-        let (Stage::Dialed(peer), Some(session)) = (self.stage, self.session) else {
-            return Stepped::Ran(RunOutcome::of(Ran::Refused));
-        };
-        match answer_to(rt, node, session, &info) {
-            Ok(answer) => self.keep(peer, info.inc(), Some(answer)),
-            Err(fault) => Stepped::Ran(RunOutcome::of(end_of(fault))),
+    fn greet_back<C: ServerCalls, R: Wait>(&mut self, rt: &R, node: C, info: RouteInfo) -> Stepped
+        ensures { TakesInfo C.Hub.routed (option_zip (dialed_place self.old.stage) self.old.session)
+            info self.old result self.new }
+    {
+        match self.dialed() {
+            None => Stepped::ended(Ran::Refused),
+            Some((peer, session)) => match answer_to(rt, node, session, &info) {
+                Ok(answer) => self.keep(peer, info.inc(), Some(answer)),
+                Err(fault) => Stepped::ended(end_of(fault)),
+            },
         }
     }
 
     /// The session is kept with the server at this place, in that life.
-    fn keep(&mut self, peer: usize, inc: Incarnation, answer: Option<RouteConnect>) -> Stepped {
+    fn keep(&mut self, peer: usize, inc: Incarnation, answer: Option<RouteConnect>) -> Stepped
+        ensures { IsKept peer inc answer self.old result self.new }
+    {
         put(&mut self.ahead, None);
         self.stage = Stage::Kept { peer, inc };
         Stepped::Greeted(Greeted { peer, answer })
+    }
+
+    /// The server that tells this, where it is listed, and its session.
+    fn listed(&self, life: &Life, told: &RouteConnect) -> Option<(usize, SessionId)>
+        ensures { result ≡ option_zip (place_of life.now told.now.server_name) self.now.session }
+    {
+        life.place(told.server_name()).zip(self.session)
     }
 
     /// The server that dialed has told who it is.
@@ -441,21 +585,42 @@ impl RouteLink {
         node: C,
         life: &Life,
         told: RouteConnect,
-    ) -> Stepped {
-        let (Some(peer), Some(session)) = (life.place(told.server_name()), self.session) else {
-            return Stepped::Ran(RunOutcome::of(Ran::Refused));
-        };
+    ) -> Stepped
+        ensures { TakesConnect C.Hub.routed
+            (option_zip (place_of life.now told.server_name) self.old.session) told self.old result
+            self.new }
+    {
+        match self.listed(life, &told) {
+            None => Stepped::ended(Ran::Refused),
+            Some((peer, session)) => self.complete_with(rt, node, peer, session, told),
+        }
+    }
+
+    /// The server at this place, which dialed, has told who it is.
+    fn complete_with<C: ServerCalls, R: Wait>(
+        &mut self,
+        rt: &R,
+        node: C,
+        peer: usize,
+        session: SessionId,
+        told: RouteConnect,
+    ) -> Stepped
+        ensures { TakesConnectOf C.Hub.routed (proved_other self.old.stage peer) peer session told
+            self.old result self.new }
+    {
         if self.has_proved_other(peer) {
-            return Stepped::Ran(RunOutcome::of(Ran::Posed));
+            return Stepped::ended(Ran::Posed);
         }
         match connect(rt, node, session, &told) {
             Ok(()) => self.keep(peer, told.inc(), None),
-            Err(fault) => Stepped::Ran(RunOutcome::of(end_of(fault))),
+            Err(fault) => Stepped::ended(end_of(fault)),
         }
     }
 
     /// Whether the other end has proved that it is another server than the one at this place.
-    fn has_proved_other(&self, peer: usize) -> bool {
+    fn has_proved_other(&self, peer: usize) -> bool
+        ensures { result ≡ proved_other self.now.stage peer }
+    {
         match self.stage {
             Stage::Accepted {
                 proved: Some(place),
@@ -466,7 +631,9 @@ impl RouteLink {
     }
 
     /// Takes numbered frames, at most a window.
-    fn receive<C: ServerCalls, R: Wait>(&mut self, rt: &R, node: C, life: &Life) -> RunOutcome {
+    fn receive<C: ServerCalls, R: Wait>(&mut self, rt: &R, node: C, life: &Life) -> RunOutcome
+        ensures { ReceivesAtHub C.Hub.routed C.Hub.pushed life.now result.end self.old self.new }
+    {
         let mut hub = node.hub(rt);
         let run = self.receive_all(&mut hub, life);
         hub.push_jobs(rt);
@@ -474,19 +641,20 @@ impl RouteLink {
     }
 
     /// The same of a hub that is held, which hands no jobs to the shards yet.
-    fn receive_all<H: HubCalls>(&mut self, hub: &mut H, life: &Life) -> RunOutcome {
+    #[tactic(auto, using(crate::proofs::RouteLemmas::none_so_far, crate::proofs::RouteLemmas::one_more, crate::proofs::RouteLemmas::ends_at, crate::proofs::RouteLemmas::ends_full))]
+    fn receive_all<H: HubCalls>(&mut self, hub: &mut H, life: &Life) -> RunOutcome
+        ensures { HasReceived H.routed life.now WINDOW result.end self.old self.new hub.old
+            hub.new }
+    {
         let mut run = RunOutcome::of(Ran::Goes);
         for _frame in 0..WINDOW {
-            match self.receive_next(hub, life) {
-                Heard::Done(bytes) => run.count(bytes),
-                Heard::Last(bytes) => {
-                    run.count(bytes);
-                    run.end = Ran::Refused;
-                    break;
-                }
-                Heard::Ended(end) => {
+            let heard = self.receive_next(hub, life);
+            run.count(heard.bytes);
+            match heard.end {
+                None => {}
+                Some(end) => {
                     run.end = end;
-                    break;
+                    return run;
                 }
             }
         }
@@ -494,15 +662,23 @@ impl RouteLink {
     }
 
     /// Whether the frame is of the server that the session is kept with.
-    fn is_of_peer(&self, frame: &Numbered, life: &Life) -> bool {
+    fn is_of_peer(&self, frame: &Numbered, life: &Life) -> bool
+        ensures peer { OnTrue result (IsOfPeer life.now self.now.stage frame.now) }
+        ensures other { OnFalse result (¬ IsOfPeer life.now self.now.stage frame.now) }
+    {
         match self.stage {
-            Stage::Kept { peer, .. } => life.place(frame.from()) == Some(peer),
+            Stage::Kept { peer, .. } => match life.place(frame.from()) {
+                Some(place) => place == peer,
+                None => false,
+            },
             _ => false,
         }
     }
 
     /// Whether the frame is of the life of the server that the session is kept with.
-    fn is_of_life(&self, frame: &Numbered) -> bool {
+    fn is_of_life(&self, frame: &Numbered) -> bool
+        ensures { result ≡ of_life self.now.stage frame.now }
+    {
         match self.stage {
             Stage::Kept { inc, .. } => frame.inc() == inc,
             _ => false,
@@ -510,29 +686,42 @@ impl RouteLink {
     }
 
     /// Takes the next frame, where it is a numbered one. It is kept while it cannot be taken.
-    fn receive_next<H: HubCalls>(&mut self, hub: &mut H, life: &Life) -> Heard {
-        if let Some(end) = self.look_ahead() {
-            return Heard::Ended(end);
+    #[tactic(auto, using(crate::proofs::RouteLemmas::hands_next, crate::proofs::RouteLemmas::hands_no_next))]
+    fn receive_next<H: HubCalls>(&mut self, hub: &mut H, life: &Life) -> Heard
+        ensures { HandsNext H.routed life.now result.end self.old self.new hub.old hub.new }
+    {
+        match self.look_ahead() {
+            Some(end) => Heard::nothing(end),
+            None => {
+                let heard = self.apply_ahead(hub, life);
+                if heard.is_done {
+                    put(&mut self.ahead, None);
+                }
+                heard
+            }
         }
-        let heard = self.apply_ahead(hub, life);
-        if heard.is_taken() {
-            put(&mut self.ahead, None);
-        }
-        heard
     }
 
     /// Has the hub take the frame that is to be taken next, where it is a numbered one.
-    fn apply_ahead<H: HubCalls>(&self, hub: &mut H, life: &Life) -> Heard {
+    fn apply_ahead<H: HubCalls>(&self, hub: &mut H, life: &Life) -> Heard
+        ensures { AppliesAhead H.routed life.now self.now.stage self.now.ahead result.is_done
+            result.end hub.old hub.new }
+    {
         match &self.ahead {
             Some(RouteFrame::Numbered(frame)) => self.apply_update(hub, life, frame),
-            _ => Heard::Ended(Ran::Goes),
+            Some(RouteFrame::Info(_)) => Heard::nothing(Ran::Goes),
+            Some(RouteFrame::Connect(_)) => Heard::nothing(Ran::Goes),
+            None => Heard::nothing(Ran::Goes),
         }
     }
 
     /// Has the hub take a frame, where it is of the server that the session is kept with.
-    fn apply_update<H: HubCalls>(&self, hub: &mut H, life: &Life, frame: &Numbered) -> Heard {
+    fn apply_update<H: HubCalls>(&self, hub: &mut H, life: &Life, frame: &Numbered) -> Heard
+        ensures { Applies H.routed life.now self.now.stage frame.now result.is_done result.end
+            hub.old hub.new }
+    {
         if !self.is_of_peer(frame, life) {
-            return Heard::Ended(Ran::Refused);
+            return Heard::nothing(Ran::Refused);
         }
         heard_of(hub.receive(frame), weight_of(frame), self.is_of_life(frame))
     }

@@ -63,7 +63,9 @@ impl RunOutcome {
     }
 
     /// A message that counts as so many bytes was handed to the shards; none was for 0.
-    pub fn count(&mut self, bytes: usize) {
+    pub fn count(&mut self, bytes: usize)
+        ensures { self.new.end ≡ self.old.end }
+    {
         if bytes > 0 {
             self.issued = self.issued.saturating_add(bytes);
             self.jobs = self.jobs.saturating_add(1);

@@ -309,8 +309,11 @@ impl<S: Stream, C: ServerCalls> Server<S, C> {
     /// changes. Gives its stream, which is closed when it is dropped, or None where there is no connection
     /// of that key. Want of memory changes nothing. May wait.
     pub fn remove<R: Wait>(&mut self, rt: &R, key: usize) -> Result<Option<S>, AllocError>
-        ensures detached { OnOk result (IfSome (get self.old.connections.table key) (λ connection. LinkDetaches C.Shard.made C.Shard.number (C.lacks self.old.node) connection.link (Ok tt))) }
-        ensures taken { OnOk result (Updates self.old.connections.table self.new.connections.table key None) }
+        ensures detached { OnOk result (IfSome (get self.old.connections.table key) (λ connection.
+            LinkDetaches C.Shard.made C.Shard.number (C.lacks self.old.node) C.Hub.routed
+            connection.link (Ok tt))) }
+        ensures taken { OnOk result
+            (Updates self.old.connections.table self.new.connections.table key None) }
         ensures err { OnErr result (self.new ≡ self.old) }
     {
         match self.connections.table.get(key) {

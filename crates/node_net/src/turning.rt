@@ -1,5 +1,10 @@
 //! A turn of the loop: what ready connections ask is done, what was put is written, and connections are closed that go.
 
+ghost use Rattle.std.specs.Prelude.{Option, Result};
+ghost use Rattle.std.specs.declared.alloc.AllocError.{AllocError};
+ghost use Rattle.hub_core.specs.declared.answers.CollectResult.{CollectResult};
+ghost use Rattle.node_net.specs.Turning.{Works, WorksShard, WorksBetween, WorksEach, CollectsEach};
+
 use crate::connection::Cause;
 use crate::limits::TAKEN_EARLY;
 use crate::route_link::{Greeted, Stepped};
@@ -22,39 +27,58 @@ struct Worked {
     is_urgent: bool,
 }
 
+impl Worked {
+    /// Nothing was worked.
+    fn nothing() -> Worked {
+        Worked {
+            jobs: 0,
+            has_deltas: false,
+            is_short: false,
+            is_urgent: false,
+        }
+    }
+}
+
 /// Works a shard until no job waits for it, or what waits for a client has come to half of its room.
-fn work_jobs<H: ShardCalls, R: Wait>(rt: &R, shard: &mut H) -> Worked {
-    let mut worked = Worked {
-        jobs: 0,
-        has_deltas: false,
-        is_short: false,
-        is_urgent: false,
-    };
+#[tactic(auto, using(crate::proofs::WorkLemmas::works_none, crate::proofs::WorkLemmas::works_one, crate::proofs::WorkLemmas::works_last))]
+fn work_jobs<H: ShardCalls, R: Wait>(rt: &R, shard: &mut H, worked: &mut Worked)
+    ensures { Works H.worked shard.old shard.new }
+{
     for _turn in 0..u64::MAX {
         match shard.work_next(rt) {
-            NextJob::Worked => {
-                worked.jobs = worked.jobs.saturating_add(1);
+            NextJob::Worked(jobs) => {
+                worked.jobs = worked.jobs.saturating_add(jobs);
                 worked.is_urgent = shard.is_urgent();
                 if worked.is_urgent {
-                    break;
+                    return;
                 }
             }
-            NextJob::Nothing => break,
+            NextJob::Nothing => return,
             NextJob::Short => {
                 worked.is_short = true;
-                break;
+                return;
             }
         }
     }
+}
+
+/// Works a shard that is held.
+fn work_held<H: ShardCalls, R: Wait>(rt: &R, shard: &mut H) -> Worked
+    ensures { Works H.worked shard.old shard.new }
+{
+    let mut worked = Worked::nothing();
+    work_jobs(rt, shard, &mut worked);
     worked.has_deltas = shard.has_deltas();
     worked
 }
 
 /// Works the shard of this number, where there is one.
-fn work_shard<C: ServerCalls, R: Wait>(rt: &R, node: C, number: u64) -> Option<Worked> {
+fn work_shard<C: ServerCalls, R: Wait>(rt: &R, node: C, number: u64) -> Option<Worked>
+    ensures { WorksShard C.Shard.worked C.Shard.number (C.lacks node) number }
+{
     match node.shard(rt, number) {
         None => None,
-        Some(mut shard) => Some(work_jobs(rt, &mut shard)),
+        Some(mut shard) => Some(work_held(rt, &mut shard)),
     }
 }
 
@@ -83,17 +107,22 @@ impl<S: Stream, C: ServerCalls> Server<S, C> {
     /// what it asks, works the shards, and writes what they have put. May wait for a lock.
     ///
     /// A stream that failed, or has come to its end, closes its connection, and no other.
-    pub fn turn<R: Wait>(&mut self, rt: &R, keys: &[usize]) {
+    pub fn turn<R: Wait>(&mut self, rt: &R, keys: &[usize])
+        ensures worked { WorksEach C.Shard.worked C.Shard.number (C.lacks self.old.node)
+            (C.count self.old.node) }
+        ensures collected { CollectsEach (C.collected self.old.node) (C.count self.old.node) }
+    {
+        let node = self.node;
         let was_short = std::mem::replace(&mut self.connections.is_short, false);
         self.serve_all(rt, keys);
         if self.connections.end_overdue() {
             self.taken.rest();
         }
-        self.work(rt);
+        self.work(rt, node);
         self.flush(rt);
         self.drain_on(rt);
         self.close_leaving(rt);
-        self.collect_all(rt);
+        self.collect_all(rt, node);
         self.write_frames(rt);
         self.end_drain();
         if self.connections.is_short && !was_short {
@@ -169,7 +198,8 @@ impl<S: Stream, C: ServerCalls> Server<S, C> {
         self.note_run(rt, key, run);
         if run.issued > 0 || run.end == Ran::Busy {
             self.connections.has_told = true;
-            self.work(rt);
+            let node = self.node;
+            self.work(rt, node);
         }
         self.count_put(rt, run);
         self.goes_on_after(key, run.end)
@@ -232,58 +262,96 @@ impl<S: Stream, C: ServerCalls> Server<S, C> {
 
     /// Works all shards until no job waits. Jobs that a lane had no memory for are handed over again, and where there is none still in
     /// the next turn.
-    fn work<R: Wait>(&mut self, rt: &R) {
-        self.work_all(rt);
+    fn work<R: Wait>(&mut self, rt: &R, node: C)
+        ensures { WorksEach C.Shard.worked C.Shard.number (C.lacks node) (C.count node) }
+    {
+        self.work_all(rt, node);
         if self.unworked > 0 {
-            push_jobs(rt, self.node);
-            self.work_all(rt);
+            push_jobs(rt, node);
+            self.work_all(rt, node);
             self.connections.is_short |= self.unworked > 0;
         }
     }
 
     /// Works all shards until no job waits. What is put is taken and written in between where a client's room
     /// comes to its half.
-    fn work_all<R: Wait>(&mut self, rt: &R) {
+    fn work_all<R: Wait>(&mut self, rt: &R, node: C)
+        ensures { WorksEach C.Shard.worked C.Shard.number (C.lacks node) (C.count node) }
+    {
+        if self.work_each(rt, node) {
+            self.work_on(rt, node);
+        }
+    }
+
+    /// Works all shards again, as long as some are to be worked on once what was put is taken.
+    fn work_on<R: Wait>(&mut self, rt: &R, node: C) {
         for _round in 0..u64::MAX {
-            if !self.work_each(rt) {
+            self.flush(rt);
+            if !self.work_each(rt, node) {
                 return;
             }
-            self.flush(rt);
         }
     }
 
     /// Works each shard, another one first each time. Whether some are to be worked on once what was put is
     /// taken.
-    fn work_each<R: Wait>(&mut self, rt: &R) -> bool {
-        let count = self.node.shards();
-        if count == 0 {
-            return false;
+    #[tactic(auto, using(crate::proofs::WorkLemmas::between_both))]
+    fn work_each<R: Wait>(&mut self, rt: &R, node: C) -> bool
+        ensures { WorksEach C.Shard.worked C.Shard.number (C.lacks node) (C.count node) }
+    {
+        let count = node.shards();
+        let first = self.next_first(count);
+        let is_urgent = self.work_between(rt, node, first, count);
+        is_urgent | self.work_between(rt, node, 0, first)
+    }
+
+    /// The place of the shard that is worked first, of so many: another one each time.
+    fn next_first(&mut self, count: u64) -> u64 {
+        self.first = self.first.saturating_add(1);
+        if self.first >= count {
+            self.first = 0;
         }
+        self.first
+    }
+
+    /// Works the shards behind this place, up to that one. Whether some are to be worked on once what was put is taken.
+    #[tactic(auto, using(crate::proofs::WorkLemmas::between_none, crate::proofs::WorkLemmas::between_more, crate::proofs::WorkLemmas::between_less))]
+    fn work_between<R: Wait>(&mut self, rt: &R, node: C, from: u64, until: u64) -> bool
+        ensures { WorksBetween C.Shard.worked C.Shard.number (C.lacks node) from until }
+    {
         let mut is_urgent = false;
-        self.first = self.first.wrapping_add(1) % count;
-        for offset in 0..count {
-            is_urgent |= self.work_one(rt, self.first.wrapping_add(offset) % count + 1);
+        for place in from..until {
+            is_urgent |= self.work_one(rt, node, place + 1);
         }
         is_urgent
     }
 
     /// Works the shard of this number. Whether it is to be worked on once what was put is taken.
-    fn work_one<R: Wait>(&mut self, rt: &R, number: u64) -> bool {
-        let Some(worked) = work_shard(rt, self.node, number) else {
-            return false;
-        };
+    fn work_one<R: Wait>(&mut self, rt: &R, node: C, number: u64) -> bool
+        ensures { WorksShard C.Shard.worked C.Shard.number (C.lacks node) number }
+    {
+        match work_shard(rt, node, number) {
+            None => false,
+            Some(worked) => self.after_work(rt, node, number, worked),
+        }
+    }
+
+    /// Notes how a shard was worked. Whether it is to be worked on once what was put is taken.
+    fn after_work<R: Wait>(&mut self, rt: &R, node: C, number: u64, worked: Worked) -> bool {
         self.unworked = self.unworked.saturating_sub(worked.jobs);
         self.connections.is_short |= worked.is_short;
         if worked.has_deltas {
-            let _done = self.collect(rt, number);
+            let _done = self.collect(rt, node, number);
         }
         worked.is_urgent
     }
 
     /// Has the hub count what a shard has opened and closed. The routes of peers that are cut by it are
     /// closed. Whether there was memory for it.
-    fn collect<R: Wait>(&mut self, rt: &R, shard: u64) -> bool {
-        match self.node.collect(rt, shard) {
+    fn collect<R: Wait>(&mut self, rt: &R, node: C, shard: u64) -> bool
+        ensures { (came : Result (Option CollectResult) AllocError) × C.collected node shard came }
+    {
+        match node.collect(rt, shard) {
             Ok(Some(told)) => {
                 self.connections.has_told = true;
                 self.cut_routes(&told.cut);
@@ -307,9 +375,12 @@ impl<S: Stream, C: ServerCalls> Server<S, C> {
     }
 
     /// Has the hub count what all shards have opened and closed.
-    fn collect_all<R: Wait>(&mut self, rt: &R) {
-        for place in 0..self.node.shards() {
-            let _done = self.collect(rt, place.saturating_add(1));
+    #[tactic(auto, using(crate::proofs::WorkLemmas::collects_none, crate::proofs::WorkLemmas::collects_less))]
+    fn collect_all<R: Wait>(&mut self, rt: &R, node: C)
+        ensures { CollectsEach (C.collected node) (C.count node) }
+    {
+        for place in 0..node.shards() {
+            let _done = self.collect(rt, node, place + 1);
         }
     }
 
@@ -371,7 +442,8 @@ impl<S: Stream, C: ServerCalls> Server<S, C> {
     /// Whether there was memory for that.
     fn tell_of_shard<R: Wait>(&mut self, rt: &R, shard: u64) -> bool {
         self.write_frames(rt);
-        let done = self.collect(rt, shard);
+        let node = self.node;
+        let done = self.collect(rt, node, shard);
         self.write_frames(rt);
         done
     }

@@ -3,11 +3,12 @@
 use client_frames::{ErrText, ReplyFrame};
 use golden::{key_of, message_with, sid_of};
 use node_law::NodeFault;
+use route_session::SessionId;
 use route_values::{Body, Numbered, RouteConnect, RouteInfo, SnapshotKeys};
 use std::alloc::Global;
 use std::sync::Wait;
 use sub_table::ListTable;
-use subj::{ConnId, Failure, Incarnation, Key, NodeId, Pub, QueueNames, Sid};
+use subj::{ConnId, Failure, Incarnation, Key, NodeId, Pub, QueueNames, Sid, WINDOW};
 use thread_node::{NodeName, ThreadNode};
 use thread_report::Pass;
 
@@ -132,12 +133,23 @@ fn snapshot(alloc: Global) -> Option<Numbered> {
     Numbered::new(n2, inc, n1, inc, 0, body)
 }
 
+/// The first message of a server to another one, both in this life.
+fn message_between(alloc: Global, from: NodeId, to: NodeId, inc: Incarnation) -> Option<Numbered> {
+    let Pub { message, .. } = hello(alloc, "")?;
+    let queues = QueueNames::new();
+    Numbered::new(from, inc, to, inc, 1, Body::Msg { message, queues })
+}
+
 /// The first message of n2 to n1.
 fn message(alloc: Global) -> Option<Numbered> {
     let Lives { n1, n2, inc } = first_lives()?;
-    let Pub { message, .. } = hello(alloc, "")?;
-    let queues = QueueNames::new();
-    Numbered::new(n2, inc, n1, inc, 1, Body::Msg { message, queues })
+    message_between(alloc, n2, n1, inc)
+}
+
+/// The first message of n1 to n2.
+fn misled(alloc: Global) -> Option<Numbered> {
+    let Lives { n1, n2, inc } = first_lives()?;
+    message_between(alloc, n1, n2, inc)
 }
 
 /// n1 receives a frame of n2.
@@ -183,4 +195,87 @@ pub fn serve_peer<N: NodeName, R: Wait>(
 ) -> Option<()> {
     dials_and_hears(rt, alloc, node, pass)?;
     is_dialed(rt, node, pass)
+}
+
+/// Whether a call was refused under a lock.
+fn refused<X: Drop, E: Drop>(answer: Result<X, Failure<E>>) -> Option<()> {
+    match answer {
+        Err(Failure::Refused(_fault)) => Some(()),
+        _ => None,
+    }
+}
+
+/// The first shard is asked for a connection that nobody has made.
+fn is_unknown<N: NodeName, R: Wait>(
+    rt: &R,
+    node: &Node<N>,
+    pass: &mut Pass<N>,
+    conn: ConnId,
+) -> Option<()> {
+    refused(pass.set_headers(rt, node, 1, conn, true))?;
+    refused(pass.reply(rt, node, 1, conn, &ReplyFrame::Pong))?;
+    refused(pass.take(rt, node, 1, conn, 1))?;
+    refused(pass.shut(rt, node, 1, conn, ErrText::ParserError))?;
+    refused(pass.detach(rt, node, 1, conn))
+}
+
+/// The same of its subscriptions; and no job is there to drop.
+fn opens_nothing<N: NodeName, R: Wait>(
+    rt: &R,
+    alloc: Global,
+    node: &Node<N>,
+    pass: &mut Pass<N>,
+    conn: ConnId,
+) -> Option<()> {
+    let (key, id) = opening(alloc)?;
+    refused(pass.subscribe(rt, node, 1, conn, key, id))?;
+    let id = sid_of(alloc, "1")?;
+    refused(pass.unsubscribe(rt, node, 1, conn, &id, None))?;
+    refused(pass.drop_job(rt, node, 1))
+}
+
+/// n1 is asked for a session that does not stand, to dial itself, and for frames to a server that is not there; and it receives a message
+/// that is for n2.
+fn has_no_session<N: NodeName, R: Wait>(
+    rt: &R,
+    alloc: Global,
+    node: &Node<N>,
+    pass: &mut Pass<N>,
+) -> Option<()> {
+    let Lives { n1, n2, inc } = first_lives()?;
+    let session = SessionId::new(1);
+    let connect = RouteConnect::new(n2, inc, n1, inc, 1)?;
+    refused(pass.info(rt, node, session, &RouteInfo::new(n2, inc)))?;
+    refused(pass.connect(rt, node, session, &connect))?;
+    refused(pass.cut(rt, node, session))?;
+    refused(pass.dial(rt, node, 0))?;
+    refused(pass.take_frames(rt, node, 2, 1))?;
+    refused(pass.receive(rt, node, &misled(alloc)?))
+}
+
+/// A caller that is refused each call. No connection has the number 9.
+pub fn serve_in_vain<N: NodeName, R: Wait>(
+    rt: &R,
+    alloc: Global,
+    node: &Node<N>,
+    pass: &mut Pass<N>,
+) -> Option<()> {
+    is_unknown(rt, node, pass, ConnId::new(9))?;
+    opens_nothing(rt, alloc, node, pass, ConnId::new(9))?;
+    has_no_session(rt, alloc, node, pass)
+}
+
+/// A client that publishes a window of publications, and one more, which is refused.
+pub fn serve_burst<N: NodeName, R: Wait>(
+    rt: &R,
+    alloc: Global,
+    node: &Node<N>,
+    pass: &mut Pass<N>,
+) -> Option<()> {
+    let conn = pass.attach(rt, node, 1).ok()?;
+    let publication = hello(alloc, "")?;
+    for _ in 0..WINDOW {
+        done(pass.publish(rt, node, conn, &publication, 7))?;
+    }
+    refused(pass.publish(rt, node, conn, &publication, 7))
 }

@@ -177,6 +177,43 @@ impl Both {
         }
         true
     }
+
+    /// Pops so many jobs behind the one in hand: whether there are so many. Where the last of them is another job than it is to be, it is
+    /// counted as many.
+    fn pops_behind(&mut self, count: usize) -> bool {
+        if count >= self.reader.waiting().len() {
+            return false;
+        }
+        self.reader.pop_behind(count);
+        let last = self.popped.saturating_add(count as u64);
+        match self.reader.in_hand() {
+            Some(job) if is_job(job, last) => self.popped = last,
+            _ => self.popped = u64::MAX,
+        }
+        true
+    }
+}
+
+/// Which jobs wait from the one in hand on.
+fn waiting_told(both: &Both, alloc: Global) -> Result<String, AllocError> {
+    let jobs = both.reader.waiting();
+    match last_of(jobs, both.popped.saturating_sub(1)) {
+        _ if jobs.is_empty() => text(alloc, "none"),
+        None => text(alloc, "other jobs"),
+        Some(last) => format!(in alloc; "jobs {} to {last}", both.popped),
+    }
+}
+
+/// Pops so many jobs behind the one in hand at once: which they are.
+fn pop_behind(both: &mut Both, alloc: Global, count: u64) -> Result<String, AllocError> {
+    let first = both.popped.saturating_add(1);
+    if !both.pops_behind(count as usize) {
+        return text(alloc, "not so many");
+    }
+    if both.popped < first {
+        return text(alloc, "none");
+    }
+    format!(in alloc; "jobs {first} to {}", both.popped)
 }
 
 /// What is told of a run that came back; it stood behind this turn.
@@ -258,6 +295,8 @@ fn call<R: Wait>(
     match call {
         "push" => text(alloc, push(rt, both, alloc, number)),
         "pop" => pop(rt, both, alloc, number),
+        "pop_behind" => pop_behind(both, alloc, number),
+        "waiting" => waiting_told(both, alloc),
         _ => text(alloc, "no such call"),
     }
 }

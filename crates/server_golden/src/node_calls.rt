@@ -81,6 +81,11 @@ fn turned_told(alloc: Global, turned: Turned) -> Result<String, AllocError> {
     match turned {
         Turned::Idle => text(alloc, "idle"),
         Turned::Worked(turn) => format!(in alloc; "worked {}", turn.get()),
+        Turned::WorkedRun { jobs, last } => format!(in alloc;
+            "worked {} up to {}",
+            jobs,
+            last.get()
+        ),
         Turned::Short => text(alloc, NO_MEMORY),
     }
 }

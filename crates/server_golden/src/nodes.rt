@@ -3,7 +3,7 @@
 
 ghost use Rattle.std.specs.Prelude.{◌≡◌};
 
-use crate::callers::{Node, serve_clients, serve_peer, serve_stray};
+use crate::callers::{Node, serve_burst, serve_clients, serve_in_vain, serve_peer, serve_stray};
 use crate::node_calls;
 use golden::{Call, Words, call_of, server_of, text, yes_or_no};
 use std::alloc::{AllocError, Global};
@@ -24,6 +24,8 @@ fn is_served<N: NodeName, R: Wait>(
         "clients" => serve_clients(rt, alloc, node, pass).is_some(),
         "peer" => serve_peer(rt, alloc, node, pass).is_some(),
         "stray" => serve_stray(rt, node, pass).is_some(),
+        "in_vain" => serve_in_vain(rt, alloc, node, pass).is_some(),
+        "burst" => serve_burst(rt, alloc, node, pass).is_some(),
         _ => false,
     }
 }
@@ -108,11 +110,11 @@ fn report_told(alloc: Global, report: &Report, what: &str) -> Result<String, All
         }
         "jobs" => jobs_told(alloc, report.jobs.as_slice()),
         "kept" => yes_or_no(alloc, report.kept),
-        "hub" => format!(in alloc; "steps {}", report.hub.len()),
+        "hub" => format!(in alloc; "entries {}", report.hub.len()),
         "worked" => {
-            let steps = report.worked.first().map_or(0, Vec::len);
+            let entries = report.worked.first().map_or(0, Vec::len);
             format!(in alloc;
-                "shards {}, steps of the first {steps}",
+                "shards {}, entries of the first {entries}",
                 report.worked.len()
             )
         }
@@ -132,8 +134,8 @@ fn end_told(
     }
 }
 
-/// Ends the server, where the last call does, and each call before it was answered. The peer, whose pass comes last, is left out where that is
-/// asked for.
+/// Ends the server, where the last call does, and each call before it was answered. The pass that comes last is left out where that is asked
+/// for.
 fn end<N: NodeName, R: Wait>(
     rt: &R,
     alloc: Global,
@@ -149,7 +151,7 @@ fn end<N: NodeName, R: Wait>(
     }
     drop(answer);
     let what = last.words.at(0);
-    if what == "without_peer" {
+    if what == "without_last" {
         drop(passes.pop());
     }
     end_told(alloc, finish(rt, alloc, node, passes), what)

@@ -42,6 +42,8 @@ impl<'n, H: HubCalls> HubCalls for LanedHub<'n, H> {
     // Now and then none are.
     ghost pushed = { λ _ _. ⊤ };
 
+    ghost routed = { λ before call after. H.routed before.hub call after.hub };
+
     fn publish(&mut self, conn: ConnId, publication: &Pub, word: u64) -> Outcome {
         self.hub.publish(conn, publication, word)
     }
@@ -101,7 +103,11 @@ impl<'n, C: ServerCalls> ServerCalls for &'n LanedNode<C> {
 
     type Hub = LanedHub<'n, C::Hub>;
 
+    ghost count = { λ laned. C.count laned.now.node };
+
     ghost lacks = { λ laned number. C.lacks laned.now.node number };
+
+    ghost collected = { λ laned number came. C.collected laned.now.node number came };
 
     fn shards(&self) -> u64 {
         let laned: &'n LanedNode<C> = *self;

@@ -86,6 +86,11 @@ fn turn_told<N: NodeName, R: Wait>(
     match shard.turn(rt, cells, &Open, &mut Tape::new(alloc, false)) {
         Turned::Idle => text(alloc, "idle"),
         Turned::Worked(turn) => format!(in alloc; "worked {}", turn.get()),
+        Turned::WorkedRun { jobs, last } => format!(in alloc;
+            "worked {} up to {}",
+            jobs,
+            last.get()
+        ),
         Turned::Short => text(alloc, "no memory"),
     }
 }

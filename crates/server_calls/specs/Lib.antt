@@ -1,0 +1,2 @@
+-- the calls that routes make of the hub
+pub mod Routed
