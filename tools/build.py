@@ -181,18 +181,18 @@ class Commands:
     def __init__(self):
         self.children, self.guard, self.is_stopped = set(), threading.Lock(), False
 
-    def start(self, command, folder):
-        with self.guard:
+    def start(self, command, folder, source):
+        with self.guard, open(source, "rb") as given:
             if self.is_stopped:
                 return None
-            child = subprocess.Popen(command, cwd=folder, stdin=subprocess.DEVNULL, stdout=subprocess.PIPE, stderr=subprocess.STDOUT, text=True,
+            child = subprocess.Popen(command, cwd=folder, stdin=given, stdout=subprocess.PIPE, stderr=subprocess.STDOUT, text=True,
                                      errors="replace", start_new_session=True)
             self.children.add(child)
             return child
 
-    def run(self, command, folder, hear):
-        """Runs a command, and has each of its lines heard. Gives whether it passed."""
-        child = self.start(command, folder)
+    def run(self, command, folder, hear, source=os.devnull):
+        """Runs a command with this file as its input, and has each of its lines heard. Gives whether it passed."""
+        child = self.start(command, folder, source)
         if child is None:
             return False
         for line in child.stdout:
@@ -281,13 +281,19 @@ def stored_words(program):
         return file.read().split()
 
 
+def stored_input(program):
+    """The file that the program's stored run reads."""
+    path = os.path.join(folder_of(program), "stdin")
+    return path if os.path.exists(path) else os.devnull
+
+
 class Build:
     """A build of a program: its plan, its trees, and how far it is."""
 
     def __init__(self, plan, program, trees, progress):
         self.plan, self.program, self.trees, self.progress, self.commands = plan, program, trees, progress, Commands()
 
-    def prove_by(self, crate, words, folder):
+    def prove_by(self, crate, words, folder, source=os.devnull):
         """Proves a crate by a command of `rt`. Gives what was said of it where it is not proved, or None."""
         said = []
 
@@ -298,7 +304,7 @@ class Build:
                 self.progress.reaches(crate, int(found[1]), int(found[2]))
 
         self.progress.begins(crate)
-        if not self.commands.run(["rt", *words], folder, hear):
+        if not self.commands.run(["rt", *words], folder, hear, source):
             return "".join(said) or f"{crate} was not proved\n"
         self.progress.ends(crate)
         return None
@@ -307,8 +313,8 @@ class Build:
         """Proves a crate. The program is built too, in the repository itself: nothing is proved beside it."""
         flags = ["--jobs", str(jobs)]
         if crate == self.program:
-            # A program is built by a run of it. On an empty input it ends with status 0: any other is that of a build that failed.
-            return self.prove_by(crate, ["run", *flags, "--", *stored_words(crate)], folder_of(crate))
+            # A program is built by its stored run, which ends with status 0: any other is that of a build that failed.
+            return self.prove_by(crate, ["run", *flags, "--", *stored_words(crate)], folder_of(crate), stored_input(crate))
         tree = self.trees.enter(crate)
         said = self.prove_by(crate, ["lib", *flags], os.path.join(tree, "crates", crate))
         if said is None:
