@@ -1,7 +1,7 @@
 """Drawn lists of steps: what each begins with, and moves behind that."""
 import json
 
-from .moves import BLOCKS, Draw, Moves
+from .moves import BLOCKS, QUEUES, Draw, Moves
 from .values import OUTBOX_BYTES, OUTBOX_ENTRIES, QUEUE_NAMES, ROUTE_FRAMES, SERVERS, SESSIONS, SHARDS, WINDOW, Message, size_of
 
 # The names of as many servers as a cluster may have.
@@ -9,6 +9,9 @@ NAMES = [[f"n{number}" for number in range(1, SERVERS + 1)], ["b", "a", "Z-1", "
 
 # How many servers, and how many shards of each, most lists have at most.
 FEW_SERVERS, FEW_SHARDS = 5, 4
+
+# How many changes of interest a hub is told at once at least, where it is told of many.
+CHANGES = 40
 
 # How many events a list has at least that is not ended by its beginning; the last move may add a few.
 EVENTS = 300
@@ -181,8 +184,40 @@ def fill_share(moves):
     moves.ask("sub", node, conn=1, pattern="foo", sid="foo")
 
 
+def publish_hot_and_cold(moves, node):
+    """Publications of the server on one subject that comes again and again, and on others that come once or twice; all of their work is done."""
+    moves.collect(node)
+    moves.hear_all()
+    for _ in range(16):
+        subject = moves.draw.one_of(["hot", "hot", f"cold.{moves.draw.below(CHANGES)}", f"cold.{moves.draw.below(CHANGES)}.x"])
+        moves.ask("publish", node, conn=1, subject=subject, payload=str(len(moves.steps)), word=moves.draw.below(1_000))
+        if moves.draw.is_one_in(2):
+            moves.hear_all()
+            for each in moves.cluster.names[:2]:
+                moves.work_off(each)
+    moves.hear_all()
+    for each in moves.cluster.names[:2]:
+        moves.work_off(each)
+
+
+def change_many(moves):
+    """Many subscriptions are opened before their hub is told of any, and many are closed before it is told again."""
+    joined(moves)
+    node = moves.draw.one_of(moves.cluster.names[:2])
+    sids = [str(number) for number in range(CHANGES + moves.draw.below(CHANGES))]
+    for sid in sids:
+        pattern = moves.draw.one_of([f"cold.{sid}", f"cold.{sid}", f"cold.{sid}.*", f"*.{sid}", "hot"])
+        moves.ask("sub", node, conn=1, pattern=pattern, queue=moves.draw.one_of(QUEUES), sid=sid)
+    publish_hot_and_cold(moves, moves.cluster.names[0])
+    kept = moves.draw.up_to(8)
+    for sid in sids:
+        if not moves.draw.is_one_in(kept):
+            moves.ask("unsub", node, conn=1, sid=sid)
+    publish_hot_and_cold(moves, moves.cluster.names[0])
+
+
 # Each with how many of a thousand lists begin so, and how many shards the servers have at most.
-BEGINNINGS = [(open_servers, 600, FEW_SHARDS), (open_many, 30, SHARDS), (blind, 120, FEW_SHARDS), (fill_outbox, 80, FEW_SHARDS),
+BEGINNINGS = [(open_servers, 560, FEW_SHARDS), (change_many, 40, FEW_SHARDS), (open_many, 30, SHARDS), (blind, 120, FEW_SHARDS), (fill_outbox, 80, FEW_SHARDS),
               (fill_window, 60, FEW_SHARDS), (fill_sessions, 30, 2), (fill_names, 30, 2), (fill_bytes, 16, FEW_SHARDS), (fill_share, 12, SHARDS),
               (fill_route, 12, 1), (fill_last_bytes, 10, FEW_SHARDS)]
 

@@ -3,9 +3,13 @@
 /// The first subject. The others have other digits.
 pub const SUBJECT: &str = "bench.00000";
 
-/// Where the digits of a subject's number are in a frame: behind `PUB bench.`.
+/// The first subject where there are patterns: the last digit is a token of its own.
+pub const SUBJECT_OF_PATTERN: &str = "bench.0000.0";
+
+/// Where the five digits of a subject's number are in a frame: behind `PUB bench.`, among so many
+/// bytes.
 const DIGITS_AT: usize = 10;
-const DIGITS: usize = 5;
+const DIGITS_WITHIN: usize = 6;
 
 /// The fewest bytes that a payload has: its message's number, and that of its publisher.
 pub const LEAST_SIZE: usize = 16;
@@ -83,16 +87,19 @@ impl Batch {
         for (frame, number) in frames.zip(first..) {
             frame[self.number_at..][..8].copy_from_slice(&number.to_le_bytes());
             if self.chooser.subjects > 1 {
-                put_digits(&mut frame[DIGITS_AT..][..DIGITS], self.chooser.next());
+                put_digits(
+                    &mut frame[DIGITS_AT..][..DIGITS_WITHIN],
+                    self.chooser.next(),
+                );
             }
         }
         &self.bytes[..end]
     }
 }
 
-/// Puts the last digits of a number there.
+/// Puts the last digits of a number where there are digits.
 fn put_digits(place: &mut [u8], mut number: u64) {
-    for digit in place.iter_mut().rev() {
+    for digit in place.iter_mut().rev().filter(|byte| byte.is_ascii_digit()) {
         *digit = b'0' + (number % 10) as u8;
         number /= 10;
     }
@@ -125,11 +132,14 @@ mod tests {
 
     #[test]
     fn digits_are_padded() {
-        let mut place = *b"?????";
+        let mut place = *b"00000 ";
         put_digits(&mut place, 42);
-        assert_eq!(&place, b"00042");
+        assert_eq!(&place, b"00042 ");
         put_digits(&mut place, 59_999);
-        assert_eq!(&place, b"59999");
+        assert_eq!(&place, b"59999 ");
+        let mut place = *b"0000.0";
+        put_digits(&mut place, 4_207);
+        assert_eq!(&place, b"0420.7");
     }
 
     #[test]

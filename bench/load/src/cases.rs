@@ -1,5 +1,7 @@
 //! The cases: who publishes, who subscribes, and to what.
 
+use crate::batch::{SUBJECT, SUBJECT_OF_PATTERN};
+
 /// What the receivers of a flow want.
 #[derive(Clone, Copy, Debug, PartialEq, Eq)]
 pub enum Wants {
@@ -9,6 +11,8 @@ pub enum Wants {
     Members(usize),
     /// Each receiver wants what goes to its own part of the subjects, so many.
     Subjects(usize),
+    /// Each receiver wants what its own patterns match, so many, of which each has ten subjects.
+    Patterns(usize),
 }
 
 /// Messages that flow from publishers to receivers.
@@ -43,16 +47,30 @@ const SUBSCRIPTIONS_EACH: usize = 15_000;
 /// How many of many subjects are hot.
 const HOT: u64 = 16;
 
+/// How many patterns each of these connections has, and over how many subjects the messages go then.
+const PATTERNS_EACH: usize = 250;
+const SUBJECTS_OF_PATTERNS: u64 = 10_000;
+
 /// All cases, by their names.
-pub const CASES: [(&str, Case); 11] = [
+pub const CASES: [(&str, Case); 12] = [
     ("publish", fan(1, 0)),
     ("one-to-one", fan(1, 1)),
     ("one-to-eight", fan(1, 8)),
     ("four-to-four", fan(4, 4)),
     ("queue-group", group(4, 2)),
     ("requests", Case::RoundTrips),
-    ("random-subjects", many(MANY)),
-    ("hot-subjects", many(HOT)),
+    (
+        "random-subjects",
+        many(Wants::Subjects(SUBSCRIPTIONS_EACH), MANY),
+    ),
+    (
+        "hot-subjects",
+        many(Wants::Subjects(SUBSCRIPTIONS_EACH), HOT),
+    ),
+    (
+        "patterns",
+        many(Wants::Patterns(PATTERNS_EACH), SUBJECTS_OF_PATTERNS),
+    ),
     ("mesh-queue-group", group(3, 2)),
     ("mesh-requests", Case::RoundTrips),
     ("storm", Case::Storm),
@@ -79,16 +97,24 @@ const fn group(receivers: usize, members_each: usize) -> Case {
 }
 
 /// A case with many subscriptions, in which the messages go to so many of the subjects.
-const fn many(subjects: u64) -> Case {
+const fn many(wants: Wants, subjects: u64) -> Case {
     Case::Flow(Flow {
         publishers: 1,
         receivers: CONNECTIONS_OF_MANY,
-        wants: Wants::Subjects(SUBSCRIPTIONS_EACH),
+        wants,
         subjects,
     })
 }
 
 impl Flow {
+    /// The subject that the first message would go to. The others have other digits.
+    pub fn first_subject(&self) -> &'static str {
+        match self.wants {
+            Wants::Patterns(_) => SUBJECT_OF_PATTERN,
+            _ => SUBJECT,
+        }
+    }
+
     /// Whether one of all receivers has to get each message; else each of them has to.
     pub fn is_shared(&self) -> bool {
         self.wants != Wants::All
@@ -107,7 +133,7 @@ impl Flow {
     pub fn subscriptions(&self) -> usize {
         match self.wants {
             Wants::All => 1,
-            Wants::Members(count) | Wants::Subjects(count) => count,
+            Wants::Members(count) | Wants::Subjects(count) | Wants::Patterns(count) => count,
         }
     }
 }

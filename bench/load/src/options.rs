@@ -17,7 +17,7 @@ Usage: nats_load [OPTIONS] <CASE>
 
 Arguments:
   <CASE>  [possible values: publish, one-to-one, one-to-eight, four-to-four, queue-group, \
-requests, random-subjects, hot-subjects, mesh-queue-group, mesh-requests, storm]
+requests, random-subjects, hot-subjects, patterns, mesh-queue-group, mesh-requests, storm]
 
 Options:
       --held          Tells when all clients are ready, and waits for a line before anything is sent

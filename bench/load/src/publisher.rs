@@ -1,6 +1,6 @@
 //! A publisher.
 
-use crate::batch::{batch_of, window_of, Batch, SUBJECT};
+use crate::batch::{batch_of, window_of, Batch};
 use crate::cases::Flow;
 use crate::connection::Connection;
 use crate::options::Options;
@@ -38,7 +38,13 @@ impl Publisher {
         Ok(Publisher {
             connection: Connection::new(options.ports[0])?,
             place,
-            batch: Batch::new(SUBJECT, place, options.size, at_once, flow.subjects),
+            batch: Batch::new(
+                flow.first_subject(),
+                place,
+                options.size,
+                at_once,
+                flow.subjects,
+            ),
             messages: options.messages,
             at_once,
             window,

@@ -82,6 +82,10 @@ fn line_of(flow: &Flow, place: usize, number: usize) -> String {
             let subject = place * count + number - 1;
             format!("SUB bench.{subject:05} {number}\r\n")
         }
+        Wants::Patterns(count) => {
+            let pattern = place * count + number - 1;
+            format!("SUB bench.{pattern:04}.* {number}\r\n")
+        }
     }
 }
 
@@ -106,5 +110,8 @@ mod tests {
         assert_eq!(line, "SUB bench.30000 1\r\n");
         let line = line_of(&flow(Wants::Subjects(15_000)), 0, 43);
         assert_eq!(line, "SUB bench.00042 43\r\n");
+        // the third receiver of 250 patterns each begins with the pattern 500
+        let line = line_of(&flow(Wants::Patterns(250)), 2, 1);
+        assert_eq!(line, "SUB bench.0500.* 1\r\n");
     }
 }
