@@ -9,7 +9,10 @@ abbrev body_at : List ℕ → List ℕ → Option Body
 body_at block payload = if is_block block then Some (record { headers = Some block; payload = payload }) else None
 
 -- a header block ends where the bytes do
-pub body_split : (headers : Option ℕ) (size : ℕ) (bytes : List ℕ) (n : ℕ) → headers ≡ Some size → n ≡ min size (length bytes) → split_body bytes n ≡ body_in headers bytes
+pub body_split : (headers : Option ℕ) (size : ℕ) (bytes : List ℕ) (n : ℕ)
+    → headers ≡ Some size
+    → n ≡ min size (length bytes)
+    → split_body bytes n ≡ body_in headers bytes
 body_split headers size bytes n are is =
     ap (split_body bytes) is
     ∙ ap (λ block. body_at block (drop (min size (length bytes)) bytes)) (take_min size bytes)

@@ -1,4 +1,5 @@
--- Asks of a client: what a connection asks of its server, as a function of the bytes fed and of the answers given.
+-- Asks of a client: what a connection asks of its server, as a function of the bytes fed and of the
+-- answers given.
 use Rattle.std.specs.Prelude.{ℕ, List, [], ◌∷◌, ◌++◌, Result, Ok, Err, Bool, true, false, ◌&&◌}
 use Rattle.wire_cut.specs.Reading.{End, waits, closed, Reading, reading_of}
 use Rattle.client_frames.specs.declared.client_line.Awaited.{Awaited}
@@ -42,10 +43,14 @@ onward_of options closed = over
 
 -- what is asked by the stream commands that were read
 abbrev pub asking_of : Options → Reading Awaited StreamItem → Asking
-asking_of options reading = record { asks = items_asks options reading.items; onward = onward_of (options_after reading.items options) reading.end }
+asking_of options reading = record {
+  asks = items_asks options reading.items;
+  onward = onward_of (options_after reading.items options) reading.end;
+}
 
 abbrev pub read_onward : Onward → List ℕ → Asking
-read_onward (listens options awaited unread) bytes = asking_of options (reading_of client_grammar awaited (unread ++ bytes))
+read_onward (listens options awaited unread) bytes =
+    asking_of options (reading_of client_grammar awaited (unread ++ bytes))
 read_onward over bytes = nothing_more
 
 -- more bytes came
@@ -58,10 +63,12 @@ asks_after_bytes bytes s = asked_before s.asks (read_onward s.onward bytes)
 abbrev pub asking_with_err : ErrText → List ClientAction → Onward → Asking
 asking_with_err text asks onward = record { asks = Reply (reply.Err text) ∷ asks; onward = onward }
 
--- A busy server is asked the same again. Five refusals are told; of all others nothing comes any more.
+-- A busy server is asked the same again. Five refusals are told; of all others nothing comes any
+-- more.
 abbrev pub refused_by : Refusal → ClientAction → List ClientAction → Onward → Asking
 refused_by Busy ask asks onward = record { asks = ask ∷ asks; onward = onward }
-refused_by TooManySubscriptions ask asks onward = asking_with_err text.TooManySubscriptions asks onward
+refused_by TooManySubscriptions ask asks onward =
+    asking_with_err text.TooManySubscriptions asks onward
 refused_by NumbersSpent ask asks onward = asking_with_err text.NumbersSpent asks onward
 refused_by TooManyQueueGroups ask asks onward = asking_with_err text.TooManyQueueGroups asks onward
 refused_by Draining ask asks onward = asking_with_err text.Draining asks onward
@@ -87,7 +94,10 @@ asks_after_answer answer s = answered_first answer s.asks s.onward
 
 -- INFO is asked for first
 abbrev pub first_asking : InfoData → Asking
-first_asking info = record { asks = Reply (reply.Info info) ∷ []; onward = listens first_options awaits.Line [] }
+first_asking info = record {
+  asks = Reply (reply.Info info) ∷ [];
+  onward = listens first_options awaits.Line [];
+}
 
 abbrev pub is_over : Onward → Bool
 is_over (listens options awaited unread) = false
@@ -108,7 +118,8 @@ asks_after_answers (answer ∷ answers) s = asks_after_answers answers (asks_aft
 
 -- what stands to be asked after these bytes and these answers
 abbrev pub asking_after : InfoData → List ℕ → List Answer → Asking
-asking_after info bytes answers = asks_after_answers answers (asks_after_bytes bytes (first_asking info))
+asking_after info bytes answers =
+    asks_after_answers answers (asks_after_bytes bytes (first_asking info))
 
 -- ---- a connection as its callers see it
 

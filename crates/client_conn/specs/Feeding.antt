@@ -16,8 +16,10 @@ pub record HasRead (old new : Asking) (before after : Option (List ℕ)) (asked 
 
 -- one read was made, which failed just where the answer says so, or the source was not asked
 abbrev pub CountsRead : Result ℕ ReadFault → Type 0 → ℕ → ℕ → ℕ → ℕ → Type 0
-CountsRead (Ok n) untouched reads reads_after failures failures_after = (reads_after ≡ reads + 1) × (failures_after ≡ failures)
-CountsRead (Err Failed) untouched reads reads_after failures failures_after = (reads_after ≡ reads + 1) × (failures_after ≡ failures + 1)
+CountsRead (Ok n) untouched reads reads_after failures failures_after =
+    (reads_after ≡ reads + 1) × (failures_after ≡ failures)
+CountsRead (Err Failed) untouched reads reads_after failures failures_after =
+    (reads_after ≡ reads + 1) × (failures_after ≡ failures + 1)
 CountsRead (Err Closed) untouched reads reads_after failures failures_after = untouched
 CountsRead (Err OutOfMemory) untouched reads reads_after failures failures_after = untouched
 
@@ -29,7 +31,8 @@ ClosedWhere false (Err Closed) = ⊥
 ClosedWhere false (Err Failed) = ⊤
 ClosedWhere false (Err OutOfMemory) = ⊤
 
--- once all is asked and answered and nothing is read any more, and otherwise only where a closing text stands to be asked
+-- once all is asked and answered and nothing is read any more, and otherwise only where a closing
+-- text stands to be asked
 pub record AnswersClosed (s : Asking) (result : Result ℕ ReadFault) : Type 0 where
   pub always : is_finished s ≡ true → result ≡ Err Closed
   pub only : result ≡ Err Closed → s.onward ≡ over

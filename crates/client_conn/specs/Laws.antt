@@ -1,4 +1,5 @@
--- That the asks depend on the bytes and the answers alone, however the bytes were cut and whenever the answers came.
+-- That the asks depend on the bytes and the answers alone, however the bytes were cut and whenever
+-- the answers came.
 use Rattle.std.specs.Prelude.{◌≡◌, ℕ, List, [], ◌∷◌, ◌++◌}
 use Rattle.client_frames.specs.declared.info.InfoData.{InfoData}
 use Rattle.client_frames.specs.declared.server_frames.ReplyFrame.TheVariants as reply
@@ -38,13 +39,20 @@ MayHappen (an_answer answer) s = ¬ (s.asks ≡ [])
 
 abbrev pub EachAnswersAnAsk : List Happening → Asking → Type 0
 EachAnswersAnAsk [] s = Unit {0}
-EachAnswersAnAsk (happening ∷ happenings) s = MayHappen happening s × EachAnswersAnAsk happenings (after happening s)
+EachAnswersAnAsk (happening ∷ happenings) s =
+    MayHappen happening s × EachAnswersAnAsk happenings (after happening s)
 
 -- What stands to be asked is a function of all bytes together and of all answers.
 abbrev pub FollowsBytesAndAnswers : Type 0
-FollowsBytesAndAnswers = (info : InfoData) (happenings : List Happening) → EachAnswersAnAsk happenings (first_asking info)
-    → after_all happenings (first_asking info) ≡ asking_after info (bytes_in happenings) (answers_in happenings)
+FollowsBytesAndAnswers =
+    (info : InfoData) (happenings : List Happening)
+    → EachAnswersAnAsk happenings (first_asking info)
+    → after_all happenings (first_asking info)
+    ≡ asking_after info (bytes_in happenings) (answers_in happenings)
 
 -- Where each ask is done, INFO is asked for and then what the stream commands ask for.
 abbrev pub AsksForStreamCommands : Type 0
-AsksForStreamCommands = (info : InfoData) (bytes : List ℕ) → (asking_after info bytes []).asks ≡ Reply (reply.Info info) ∷ items_asks first_options (stream_commands bytes)
+AsksForStreamCommands =
+    (info : InfoData) (bytes : List ℕ)
+    → (asking_after info bytes []).asks
+    ≡ Reply (reply.Info info) ∷ items_asks first_options (stream_commands bytes)

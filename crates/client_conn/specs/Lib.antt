@@ -1,8 +1,10 @@
 -- what one client's stream asks of a server, item by item
 pub mod Items
--- asks of a client: what a connection asks of its server, as a function of the bytes fed and of the answers given
+-- asks of a client: what a connection asks of its server, as a function of the bytes fed and of the
+-- answers given
 pub mod Asks
--- that the asks depend on the bytes and the answers alone, however the bytes were cut and whenever the answers came
+-- that the asks depend on the bytes and the answers alone, however the bytes were cut and whenever
+-- the answers came
 pub mod Laws
 -- a client's stream, read item by item
 pub mod Streams

@@ -42,11 +42,17 @@ abbrev pub AwaitsPayload : Awaited → Type 0
 AwaitsPayload awaited = (head : PubHead) × (awaited ≡ awaits.Payload head)
 
 abbrev pub message_with : PubHead → Body → Content
-message_with head body = record { subject = head.subject; reply = head.reply; headers = body.headers; payload = body.payload }
+message_with head body = record {
+  subject = head.subject;
+  reply = head.reply;
+  headers = body.headers;
+  payload = body.payload;
+}
 
 -- the message of the head that is awaited, with this body
 abbrev pub IsMessageOf : Awaited → Body → Content → Type 0
-IsMessageOf awaited body message = (head : PubHead) × (awaited ≡ awaits.Payload head) × (message ≡ message_with head body)
+IsMessageOf awaited body message =
+    (head : PubHead) × (awaited ≡ awaits.Payload head) × (message ≡ message_with head body)
 
 abbrev pub AwaitsLostPayload : Awaited → Type 0
 AwaitsLostPayload awaited = (size : ℕ) × (awaited ≡ awaits.LostPayload size)
@@ -56,7 +62,8 @@ abbrev pub asking_at : OpenState → End Awaited → Asking
 asking_at stand end = asked_before stand.asks (asking_of stand.options (reading_at end))
 
 -- the reader has n bytes more
-pub record HasFilled (old new : End Awaited) (before after : Option (List ℕ)) (asked n : ℕ) : Type 0 where
+pub record HasFilled (old new : End Awaited) (before after : Option (List ℕ)) (asked n : ℕ) :
+    Type 0 where
   pub bytes : List ℕ
   pub came : new ≡ longer bytes old
   pub count : length bytes ≡ n
@@ -69,14 +76,22 @@ pub record HasFilled (old new : End Awaited) (before after : Option (List ℕ)) 
 -- this alone was found, and the reader stands behind it
 abbrev pub FoundAlone : StreamItem → Found Awaited StreamItem → End Awaited → Type 0
 FoundAlone told nothing new = ⊥
-FoundAlone told (something items next asked_before) new = (items ≡ told ∷ []) × (new ≡ waits next asked_before)
+FoundAlone told (something items next asked_before) new =
+    (items ≡ told ∷ []) × (new ≡ waits next asked_before)
 FoundAlone told (the_end items) new = (items ≡ told ∷ []) × (new ≡ closed)
 
 -- what a look has found, what stands to be asked then, and where the reader stands
-abbrev pub TellsFound : Looked → OpenState → OpenState → Found Awaited StreamItem → End Awaited → Type 0
+abbrev pub TellsFound : Looked → OpenState → OpenState → Found Awaited StreamItem → End Awaited
+    → Type 0
 TellsFound Waits before stand f new = (f ≡ nothing) × (stand ≡ before)
-TellsFound Announced before stand f new = (next : Awaited) × (rest : List ℕ) × (f ≡ something [] next rest) × (new ≡ waits next rest) × (stand ≡ before)
-TellsFound Told before stand f new = (told : StreamItem) × (stand ≡ asked_by told before.options) × FoundAlone told f new
+TellsFound Announced before stand f new =
+    (next : Awaited)
+    × (rest : List ℕ)
+    × (f ≡ something [] next rest)
+    × (new ≡ waits next rest)
+    × (stand ≡ before)
+TellsFound Told before stand f new =
+    (told : StreamItem) × (stand ≡ asked_by told before.options) × FoundAlone told f new
 
 -- how much is left to be read
 abbrev pub left_of : End Awaited → ℕ
@@ -101,16 +116,20 @@ pub record HasNone (old new : End Awaited) : Type 0 where
   pub none : (reading_at new).items ≡ []
 
 -- a look from one end to another
-pub record HasMoved (looked : Looked) (before stand : OpenState) (f : Found Awaited StreamItem) (old new : End Awaited) : Type 0 where
+pub record HasMoved (looked : Looked) (before stand : OpenState) (f : Found Awaited StreamItem)
+    (old new : End Awaited) : Type 0 where
   pub tells : TellsFound looked before stand f new
   pub moves : Moves looked old new
 
 abbrev pub HasLooked : Looked → OpenState → OpenState → End Awaited → End Awaited → Type 0
-HasLooked looked before stand (waits awaited unread) new = HasMoved looked before stand (finding client_grammar awaited unread) (waits awaited unread) new
+HasLooked looked before stand (waits awaited unread) new =
+    HasMoved looked before stand (finding client_grammar awaited unread) (waits awaited unread) new
 HasLooked Waits before stand closed new = (new ≡ closed) × (stand ≡ before)
 HasLooked Announced before stand closed new = ⊥
 HasLooked Told before stand closed new = ⊥
 
 -- the same of a reader that reads
 abbrev pub HasLookedAt : Looked → OpenState → OpenState → ItemReader → ItemReader → Type 0
-HasLookedAt looked before stand old new = HasMoved looked before stand (finding client_grammar old.awaited old.cutter.unread) (end_of old) (end_of new)
+HasLookedAt looked before stand old new =
+    HasMoved looked before stand (finding client_grammar old.awaited old.cutter.unread) (end_of old)
+    (end_of new)

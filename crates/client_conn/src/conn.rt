@@ -10,6 +10,7 @@ ghost use Rattle.client_frames.specs.Streams.{asked, client_grammar, command_tol
 ghost use Rattle.client_frames.specs.ErrTexts.{line_fault_text};
 ghost use Rattle.client_conn.specs.declared.ask.ClientAction.{ClientAction};
 ghost use Rattle.client_conn.specs.Asks.{no_asks, first_asking, asks_after_bytes, asks_after_answer, is_finished};
+ghost use Rattle.subj.specs.Messages.{split_body};
 ghost use Rattle.client_conn.specs.Items.{asked_by, with_confirmation, first_options, publication_of, refusal_asks, body_in};
 ghost use Rattle.wire_cut.specs.Cut.{cut_of, piece_length, after_next};
 ghost use Rattle.wire_cut.specs.Reading.{waits, finding_before};
@@ -53,7 +54,10 @@ impl Model for OpenAsks {
 
     ghost Value = { OpenState };
 
-    ghost view = { λ s. record { asks = option_to_list s.confirmation ++ option_to_list s.own; options = s.options } };
+    ghost view = { λ s. record {
+      asks = option_to_list s.confirmation ++ option_to_list s.own;
+      options = s.options;
+    } };
 }
 
 /// Asks for nothing in the place. Most often nothing was asked there, and nothing is dropped then.
@@ -66,10 +70,18 @@ fn empty(place: &mut Option<ClientAction>)
     }
 }
 
+/// Asks for this in the place.
+fn replace(place: &mut Option<ClientAction>, ask: ClientAction)
+    ensures { place.new ≡ Some ask }
+{
+    *place = Some(ask);
+}
+
 /// Asks for `+OK` in verbose mode, before what a command asks for itself.
 #[inline(always)]
 fn confirm(confirmation: &mut Option<ClientAction>, options: Options)
-    ensures { (own : List ClientAction) → option_to_list confirmation.new ++ own ≡ with_confirmation options own }
+    ensures { (own : List ClientAction)
+        → option_to_list confirmation.new ++ own ≡ with_confirmation options own }
 {
     empty(confirmation);
     if options.verbose {
@@ -111,30 +123,40 @@ impl OpenAsks {
         match command {
             ClientLine::Connect(chosen) => {
                 self.options = chosen;
-                confirm(&mut self.confirmation, self.options);
-                self.own = Some(ClientAction::SetHeaders(chosen.headers));
+                self.ask_own(ClientAction::SetHeaders(chosen.headers))
             }
             ClientLine::Sub {
                 pattern,
                 queue,
                 sid,
-            } => {
-                let key = Key { pattern, queue };
-                confirm(&mut self.confirmation, self.options);
-                self.own = Some(ClientAction::Subscribe { key, sid });
-            }
+            } => self.ask_own(ClientAction::Subscribe {
+                key: Key { pattern, queue },
+                sid,
+            }),
             ClientLine::Unsub { sid, max } => {
-                confirm(&mut self.confirmation, self.options);
-                self.own = Some(ClientAction::Unsubscribe { sid, max });
+                self.ask_own(ClientAction::Unsubscribe { sid, max })
             }
             ClientLine::Ping => self.ask_alone(ClientAction::Reply(ReplyFrame::Pong)),
             ClientLine::Pong | ClientLine::Pub(_) | ClientLine::PubBad { .. } => self.clear(),
         }
     }
 
+    /// A command's own ask stands behind its confirmation, in place of what stood.
+    fn ask_own(&mut self, ask: ClientAction)
+        ensures { self.new
+            ≡ record self.old { asks = with_confirmation self.old.options (ask ∷ []) } }
+    {
+        confirm(&mut self.confirmation, self.options);
+        replace(&mut self.own, ask);
+    }
+
     /// What a publication asks for stands in place of what stood.
     pub fn ask_publication(&mut self, message: Message)
-        ensures { self.new ≡ record self.old { asks = with_confirmation self.old.options (ask.Publish (publication_of message self.old.options) ∷ []) } }
+        ensures { self.new ≡ record self.old {
+          asks =
+              with_confirmation self.old.options
+              (ask.Publish (publication_of message self.old.options) ∷ []);
+        } }
     {
         let publication = Pub {
             message,
@@ -159,8 +181,8 @@ impl OpenAsks {
     fn ask_alone(&mut self, ask: ClientAction)
         ensures { self.new ≡ record self.old { asks = ask ∷ [] } }
     {
-        self.confirmation = None;
-        self.own = Some(ask);
+        empty(&mut self.confirmation);
+        replace(&mut self.own, ask);
     }
 
     /// Whether nothing is asked.
@@ -194,13 +216,14 @@ impl OpenAsks {
 
     /// The client is told this in place of the first.
     pub fn tell(&mut self, text: ErrText)
-        ensures { self.new ≡ record self.old { asks = ask.Reply (reply.Err text) ∷ drop 1 self.old.asks } }
+        ensures { self.new
+            ≡ record self.old { asks = ask.Reply (reply.Err text) ∷ drop 1 self.old.asks } }
     {
-        let told = Some(ClientAction::Reply(ReplyFrame::Err(text)));
+        let told = ClientAction::Reply(ReplyFrame::Err(text));
         if self.confirmation.is_some() {
-            self.confirmation = told;
+            replace(&mut self.confirmation, told)
         } else {
-            self.own = told;
+            replace(&mut self.own, told)
         }
     }
 
@@ -208,8 +231,8 @@ impl OpenAsks {
     pub fn clear(&mut self)
         ensures { self.new ≡ record self.old { asks = [] } }
     {
-        self.confirmation = None;
-        self.own = None;
+        empty(&mut self.confirmation);
+        empty(&mut self.own);
     }
 }
 
@@ -238,6 +261,7 @@ pub enum Looked {
 
 /// A copy of the bytes behind a line that announces so many bytes of headers, or none. None where the headers do not begin with
 /// `NATS/1.0`, which takes no memory.
+#[tactic(auto, using(crate::proofs::Bodies::body_split))]
 fn copy_body(
     texts: &mut SharedTexts,
     headers: Option<u64>,
@@ -250,7 +274,20 @@ fn copy_body(
     let Some(size) = headers else {
         return Ok(Some(MessageBody::plain(texts.copy(bytes)?)));
     };
-    let size = (size as usize).min(bytes.len());
+    copy_headed(texts, (size as usize).min(bytes.len()), bytes)
+}
+
+/// A copy of bytes of which so many are headers.
+fn copy_headed(
+    texts: &mut SharedTexts,
+    size: usize,
+    bytes: &[u8],
+) -> Result<Option<MessageBody>, AllocError>
+    requires within { size ≤ length bytes.now }
+    requires fits { length bytes.now ≤ MAX_PAYLOAD }
+    ensures body { IfOk result (λ body. body ≡ split_body bytes.now size) }
+    ensures err { OnErr result (is_some (split_body bytes.now size) ≡ true) }
+{
     if !is_header_block(&bytes[..size]) {
         return Ok(None);
     }
@@ -264,7 +301,8 @@ fn message_with(
     body: MessageBody,
 ) -> Result<Message, AllocError>
     requires due { AwaitsPayload awaited.old }
-    ensures ok { IfOk result (λ message. IsMessageOf awaited.old body message × (awaited.new ≡ awaits.Line)) }
+    ensures ok { IfOk result (λ message.
+        IsMessageOf awaited.old body message × (awaited.new ≡ awaits.Line)) }
     ensures err { OnErr result (awaited.new ≡ awaited.old) }
 {
     let Awaited::Payload(head) = mem::replace(awaited, Awaited::Line) else {
@@ -370,10 +408,13 @@ impl ItemReader {
     /// Reads the next bytes of the stream, at most `most`, straight into the buffer of the cutter, and answers how many.
     pub fn read_from<S: Source>(&mut self, source: &mut S, most: usize) -> Result<usize, ReadFault>
         requires { IsInStep self.old }
-        ensures ok { IfOk result (λ n. HasFilled (end_of self.old) (end_of self.new) (S.remaining source.old) (S.remaining source.new) most n) }
+        ensures ok { IfOk result (λ n.
+            HasFilled (end_of self.old) (end_of self.new) (S.remaining source.old)
+            (S.remaining source.new) most n) }
         ensures err { OnErr result (end_of self.new ≡ end_of self.old) }
         ensures kept { OnErr result (Keeps (S.remaining source.old) (S.remaining source.new)) }
-        ensures read { CountsRead result (source.new ≡ source.old) (S.reads source.old) (S.reads source.new) (S.failures source.old) (S.failures source.new) }
+        ensures read { CountsRead result (source.new ≡ source.old) (S.reads source.old)
+            (S.reads source.new) (S.failures source.old) (S.failures source.new) }
         ensures closed { ClosedWhere self.old.ended result }
         ensures step { IsInStep self.new }
     {
@@ -392,7 +433,8 @@ impl ItemReader {
     /// Looks at the next piece, and puts what an item asks for in place of what is asked. Want of memory changes nothing.
     pub fn look(&mut self, open_asks: &mut OpenAsks) -> Result<Looked, AllocError>
         requires { IsInStep self.old }
-        ensures ok { IfOk result (λ looked. HasLooked looked open_asks.old open_asks.new (end_of self.old) (end_of self.new)) }
+        ensures ok { IfOk result (λ looked.
+            HasLooked looked open_asks.old open_asks.new (end_of self.old) (end_of self.new)) }
         ensures err { OnErr result ((self.new ≡ self.old) × (open_asks.new ≡ open_asks.old)) }
         ensures step { IsInStep self.new }
     {
@@ -411,7 +453,8 @@ impl ItemReader {
         requires step { IsInStep self.old }
         requires reads { self.old.ended ≡ false }
         requires due { self.old.awaited ≡ awaits.Line }
-        ensures ok { IfOk result (λ looked. HasLookedAt looked open_asks.old open_asks.new self.old self.new) }
+        ensures ok { IfOk result (λ looked.
+            HasLookedAt looked open_asks.old open_asks.new self.old self.new) }
         ensures err { OnErr result ((self.new ≡ self.old) × (open_asks.new ≡ open_asks.old)) }
         ensures step { IsInStep self.new }
     {
@@ -449,7 +492,8 @@ impl ItemReader {
         requires line { piece_length (cut_of self.old.cutter) ≡ Some size }
         requires behind { IsBehindLine (record self.old { cutter = after_next self.old.cutter }) }
         ensures tells { TellsFound result open_asks.old open_asks.new
-            (finding_before client_grammar (after_next self.old.cutter).unread (command_told command))
+            (finding_before client_grammar (after_next self.old.cutter).unread
+            (command_told command))
             (end_of self.new) }
         ensures step { IsInStep self.new }
     {
@@ -485,7 +529,9 @@ impl ItemReader {
     #[inline(never)]
     fn tell(&mut self, command: ClientLine, open_asks: &mut OpenAsks) -> Looked
         requires behind { IsBehindLine self.old }
-        ensures tells { TellsFound result open_asks.old open_asks.new (finding_before client_grammar self.old.cutter.unread (command_told command)) (end_of self.new) }
+        ensures tells { TellsFound result open_asks.old open_asks.new
+            (finding_before client_grammar self.old.cutter.unread (command_told command))
+            (end_of self.new) }
         ensures step { IsInStep self.new }
     {
         match command {
@@ -507,7 +553,9 @@ impl ItemReader {
     /// A line is refused, and nothing is read behind it where its text closes.
     fn refuse(&mut self, fault: LineFault, open_asks: &mut OpenAsks) -> Looked
         requires behind { IsBehindLine self.old }
-        ensures tells { TellsFound result open_asks.old open_asks.new (finding_before client_grammar self.old.cutter.unread (refusal_told fault)) (end_of self.new) }
+        ensures tells { TellsFound result open_asks.old open_asks.new
+            (finding_before client_grammar self.old.cutter.unread (refusal_told fault))
+            (end_of self.new) }
         ensures step { IsInStep self.new }
     {
         let text = ErrText::of_line(fault);
@@ -522,8 +570,10 @@ impl ItemReader {
     fn lose(&mut self, size: usize, fault: LineFault, open_asks: &mut OpenAsks) -> Looked
         requires { piece_length (cut_of self.old.cutter) ≡ Some size }
         ensures told { result ≡ looks.Told }
-        ensures asks { open_asks.new ≡ record open_asks.old { asks = refusal_asks (line_fault_text fault) } }
-        ensures passed { self.new ≡ record self.old { cutter = after_next self.old.cutter; awaited = awaits.Line } }
+        ensures asks { open_asks.new
+            ≡ record open_asks.old { asks = refusal_asks (line_fault_text fault) } }
+        ensures passed { self.new
+            ≡ record self.old { cutter = after_next self.old.cutter; awaited = awaits.Line } }
     {
         self.cutter.consume(size);
         self.awaited = Awaited::Line;
@@ -536,7 +586,8 @@ impl ItemReader {
         requires step { IsInStep self.old }
         requires reads { self.old.ended ≡ false }
         requires due { AwaitsPayload self.old.awaited }
-        ensures ok { IfOk result (λ looked. HasLookedAt looked open_asks.old open_asks.new self.old self.new) }
+        ensures ok { IfOk result (λ looked.
+            HasLookedAt looked open_asks.old open_asks.new self.old self.new) }
         ensures err { OnErr result ((self.new ≡ self.old) × (open_asks.new ≡ open_asks.old)) }
         ensures step { IsInStep self.new }
     {
@@ -608,8 +659,10 @@ impl Model for Conn {
 /// Reads on until something stands to be asked, or more bytes are needed.
 fn advance(reader: &mut ItemReader, open_asks: &mut OpenAsks) -> Result<(), AllocError>
     requires { IsInStep reader.old }
-    ensures same { asking_at open_asks.new (end_of reader.new) ≡ asking_at open_asks.old (end_of reader.old) }
-    ensures first { OnOk result (open_asks.new.asks ≡ [] → (asking_at open_asks.new (end_of reader.new)).asks ≡ []) }
+    ensures same { asking_at open_asks.new (end_of reader.new)
+        ≡ asking_at open_asks.old (end_of reader.old) }
+    ensures first { OnOk result
+        (open_asks.new.asks ≡ [] → (asking_at open_asks.new (end_of reader.new)).asks ≡ []) }
     ensures kept { OnErr result (open_asks.new.asks ≡ []) }
     ensures step { IsInStep reader.new }
 {
@@ -649,7 +702,9 @@ impl Conn {
     /// An error changes nothing. `Closed` where nothing is read any more: always once all is asked and
     /// answered, and else at most where a closing text stands to be asked.
     pub fn read_from<S: Source>(&mut self, source: &mut S, most: usize) -> Result<usize, ReadFault>
-        ensures ok { IfOk result (λ n. HasRead self.old.asking self.new.asking (S.remaining source.old) (S.remaining source.new) most n) }
+        ensures ok { IfOk result (λ n.
+            HasRead self.old.asking self.new.asking (S.remaining source.old)
+            (S.remaining source.new) most n) }
         ensures given { self.new.given ≡ self.old.given }
         ensures err { OnErr result (self.new ≡ self.old) }
         ensures kept { OnErr result (Keeps (S.remaining source.old) (S.remaining source.new)) }
@@ -678,7 +733,9 @@ impl Conn {
     /// any other refusal nothing is asked any more. Nothing comes of an answer where `next` gave nothing that still
     /// waits for one. Takes no memory.
     pub fn answer(&mut self, answer: Result<(), Refusal>)
-        ensures { self.new.asking ≡ (if self.old.given then asks_after_answer answer self.old.asking else self.old.asking) }
+        ensures { self.new.asking
+            ≡ (if self.old.given then asks_after_answer answer self.old.asking
+            else self.old.asking) }
     {
         match answer {
             Ok(()) => {
@@ -691,7 +748,9 @@ impl Conn {
 
     /// What was asked is refused, where anything was.
     fn refuse(&mut self, refusal: Refusal)
-        ensures { self.new.asking ≡ (if self.old.given then asks_after_answer (Err refusal) self.old.asking else self.old.asking) }
+        ensures { self.new.asking
+            ≡ (if self.old.given then asks_after_answer (Err refusal) self.old.asking
+            else self.old.asking) }
     {
         if self.open_asks.is_empty() {
             return;

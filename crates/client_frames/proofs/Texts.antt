@@ -10,7 +10,10 @@ use Rattle.client_frames.specs.Choices.{json_of}
 pub is_json : (text : List ℕ) (json : Data) → IsUtf8 text → read text ≡ Some json → Some json ≡ json_of text
 is_json text json utf8 is = sym (ap (λ b. cond b (read text) None) (is_utf8-from_IsUtf8 text utf8) ∙ is)
 
-no_json_by : (text : List ℕ) (utf8 : Bool) → is_utf8 text ≡ utf8 → (IsUtf8 text → read text ≡ None) → json_of text ≡ None
+no_json_by : (text : List ℕ) (utf8 : Bool)
+    → is_utf8 text ≡ utf8
+    → (IsUtf8 text → read text ≡ None)
+    → json_of text ≡ None
 no_json_by text true is none = ap (λ b. cond b (read text) None) is ∙ none (IsUtf8-from_is_utf8 text is)
 no_json_by text false is none = ap (λ b. cond b (read text) None) is
 

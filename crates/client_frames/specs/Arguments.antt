@@ -28,7 +28,8 @@ three_or_four [] = None
 three_or_four (a ∷ []) = None
 three_or_four (a ∷ b ∷ []) = None
 three_or_four (a ∷ b ∷ c ∷ []) = Some (record { first = a; between = None; block = b; whole = c })
-three_or_four (a ∷ b ∷ c ∷ d ∷ []) = Some (record { first = a; between = Some b; block = c; whole = d })
+three_or_four (a ∷ b ∷ c ∷ d ∷ []) =
+    Some (record { first = a; between = Some b; block = c; whole = d })
 three_or_four (a ∷ b ∷ c ∷ d ∷ e ∷ more) = None
 
 -- a size, or a maximum of messages; profile: one to ten digits

@@ -1,4 +1,5 @@
--- Why a line is refused (profile): each line that spells no command has one of these causes, and no other.
+-- Why a line is refused (profile): each line that spells no command has one of these causes, and no
+-- other.
 use Rattle.std.specs.Prelude.{◌≡◌, ℕ, true, List, [], Option, None, Err, is_some}
 use Rattle.subj.specs.Names.{pattern_fault}
 use Rattle.client_frames.specs.declared.decoding.Operation.{Operation}
@@ -12,12 +13,19 @@ use Rattle.client_frames.specs.Spelling.{SpellsPub, SpellsHpub, SpellsSub, Spell
 
 -- ---- what stands behind an operation that a line begins with
 
--- the fields are not those of the operation, or one that has to be a number, a subscription id or a queue name is none
+-- the fields are not those of the operation, or one that has to be a number, a subscription id or a
+-- queue name is none
 abbrev pub HasBadArgs : Operation → List (List ℕ) → Type 0
 HasBadArgs Connect arguments = arguments ≡ []
-HasBadArgs Pub arguments = (subject : List ℕ) (reply : Option (List ℕ)) (size : ℕ) → ¬ (SpellsPub arguments subject reply size)
-HasBadArgs Hpub arguments = (subject : List ℕ) (reply : Option (List ℕ)) (block size : ℕ) → ¬ (SpellsHpub arguments subject reply block size)
-HasBadArgs Sub arguments = (pattern : List ℕ) (queue : Option (List ℕ)) (sid : List ℕ) → ¬ (SpellsSub arguments pattern queue sid)
+HasBadArgs Pub arguments =
+    (subject : List ℕ) (reply : Option (List ℕ)) (size : ℕ)
+    → ¬ (SpellsPub arguments subject reply size)
+HasBadArgs Hpub arguments =
+    (subject : List ℕ) (reply : Option (List ℕ)) (block size : ℕ)
+    → ¬ (SpellsHpub arguments subject reply block size)
+HasBadArgs Sub arguments =
+    (pattern : List ℕ) (queue : Option (List ℕ)) (sid : List ℕ)
+    → ¬ (SpellsSub arguments pattern queue sid)
 HasBadArgs Unsub arguments = (sid : List ℕ) (max : Option ℕ) → ¬ (SpellsUnsub arguments sid max)
 HasBadArgs Ping arguments = ⊥
 HasBadArgs Pong arguments = ⊥
@@ -39,7 +47,9 @@ pub record HasBadPattern (arguments : List (List ℕ)) : Type 0 where
 
 -- no operation begins the line
 abbrev pub NamesNoOperation : List ℕ → Type 0
-NamesNoOperation line = (operation : Operation) (text : List ℕ) (arguments : List (List ℕ)) → ¬ (IsOperationOn operation text arguments line)
+NamesNoOperation line =
+    (operation : Operation) (text : List ℕ) (arguments : List (List ℕ))
+    → ¬ (IsOperationOn operation text arguments line)
 
 -- what stands behind an operation is refused so
 abbrev pub TextIsRefused : LineFault → Operation → List ℕ → List (List ℕ) → Type 0
@@ -68,10 +78,12 @@ HasCause line BadHeader = ⊥
 -- ---- a line is refused just for its cause
 
 abbrev pub IsRefusedForItsCause : Type 0
-IsRefusedForItsCause = (line : List ℕ) (fault : LineFault) → HasCause line fault → line_meaning line ≡ Err fault
+IsRefusedForItsCause =
+    (line : List ℕ) (fault : LineFault) → HasCause line fault → line_meaning line ≡ Err fault
 
 abbrev pub HasTheCauseItIsRefusedFor : Type 0
-HasTheCauseItIsRefusedFor = (line : List ℕ) (fault : LineFault) → line_meaning line ≡ Err fault → HasCause line fault
+HasTheCauseItIsRefusedFor =
+    (line : List ℕ) (fault : LineFault) → line_meaning line ≡ Err fault → HasCause line fault
 
 -- the one cause of a line
 pub record IsItsCause (line : List ℕ) (fault : LineFault) : Type 0 where
@@ -80,4 +92,7 @@ pub record IsItsCause (line : List ℕ) (fault : LineFault) : Type 0 where
 
 -- a line that spells no command has one cause
 abbrev pub HasOneCause : Type 0
-HasOneCause = (line : List ℕ) → ((command : ClientLine) → ¬ (Spells line command)) → (fault : LineFault) × IsItsCause line fault
+HasOneCause =
+    (line : List ℕ)
+    → ((command : ClientLine) → ¬ (Spells line command))
+    → (fault : LineFault) × IsItsCause line fault

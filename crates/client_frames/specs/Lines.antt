@@ -1,5 +1,6 @@
--- Client spelling: what a control line of a client asks for, or why it is refused.
--- NATS documentation, "Client Protocol": the operations and their fields. The refusals are this project's profile.
+-- Client spelling: what a control line of a client asks for, or why it is refused. NATS
+-- documentation, "Client Protocol": the operations and their fields. The refusals are this
+-- project's profile.
 use Rattle.std.specs.Prelude.{◌≡◌, ℕ, nat_le, Bool, true, false, IsTrue, List, [], ◌∷◌, length, drop, Option, Some, None, Result, Ok, Err, is_some, if◌then◌else◌}
 use Rattle.std.specs.Option.{option_or}
 use Rattle.subj.specs.Names.{subject_fault, pattern_fault, queue_name_fault, sid_fault}
@@ -63,15 +64,18 @@ publication_of (Some a) = publication_sized a (count_of a.last)
 abbrev pub sizes_of : Option ℕ → Option ℕ → Option Sizes
 sizes_of None whole = None
 sizes_of (Some block) None = None
-sizes_of (Some block) (Some whole) = if nat_le block whole then Some (record { block = block; whole = whole }) else None
+sizes_of (Some block) (Some whole) =
+    if nat_le block whole then Some (record { block = block; whole = whole }) else None
 
 abbrev pub headed_publication : HeadedArguments → Option Sizes → Meaning
 headed_publication a None = Err BadArgs
-headed_publication a (Some sizes) = Ok (publication a.first a.between (Some sizes.block) sizes.whole)
+headed_publication a (Some sizes) =
+    Ok (publication a.first a.between (Some sizes.block) sizes.whole)
 
 abbrev pub headed_publication_of : Option HeadedArguments → Meaning
 headed_publication_of None = Err BadArgs
-headed_publication_of (Some a) = headed_publication a (sizes_of (count_of a.block) (count_of a.whole))
+headed_publication_of (Some a) =
+    headed_publication a (sizes_of (count_of a.block) (count_of a.whole))
 
 -- ---- SUB <subject> [queue group] <sid>
 
@@ -87,7 +91,8 @@ membership_fault queue sid = option_or (sid_fault sid) (queue_fault queue)
 abbrev pub subscription : Arguments → Meaning
 subscription a =
     if is_some (membership_fault a.between a.last) then Err BadArgs
-    else (if is_some (pattern_fault a.first) then Err BadSubject else Ok (Sub a.first a.between a.last))
+    else (if is_some (pattern_fault a.first) then Err BadSubject
+    else Ok (Sub a.first a.between a.last))
 
 abbrev pub subscription_of : Option Arguments → Meaning
 subscription_of None = Err BadArgs
@@ -120,7 +125,8 @@ abbrev pub operation_meaning : Option Operation → List ℕ → List (List ℕ)
 operation_meaning None text arguments = Err UnknownOp
 operation_meaning (Some operation.Connect) text arguments = connection_of text arguments
 operation_meaning (Some operation.Pub) text arguments = publication_of (two_or_three arguments)
-operation_meaning (Some operation.Hpub) text arguments = headed_publication_of (three_or_four arguments)
+operation_meaning (Some operation.Hpub) text arguments =
+    headed_publication_of (three_or_four arguments)
 operation_meaning (Some operation.Sub) text arguments = subscription_of (two_or_three arguments)
 operation_meaning (Some operation.Unsub) text arguments = unsubscription_of arguments
 operation_meaning (Some operation.Ping) text arguments = Ok Ping
@@ -128,7 +134,8 @@ operation_meaning (Some operation.Pong) text arguments = Ok Pong
 
 abbrev pub fields_meaning : List ℕ → List (List ℕ) → Meaning
 fields_meaning line [] = Err UnknownOp
-fields_meaning line (field ∷ arguments) = operation_meaning (operation_of field) (drop (length field) line) arguments
+fields_meaning line (field ∷ arguments) =
+    operation_meaning (operation_of field) (drop (length field) line) arguments
 
 -- what a line means, which has no CR LF
 abbrev pub line_meaning : List ℕ → Meaning

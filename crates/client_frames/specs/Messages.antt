@@ -3,7 +3,8 @@ use Rattle.std.specs.Prelude.{ℕ, Bool, true, false, ◌&&◌, List, [], ◌++�
 use Rattle.line_fields.specs.LineEnd.{line_end}
 use Rattle.subj.specs.Messages.{Content, body_bytes}
 
--- NATS documentation, "Client Protocol", "CONNECT", `headers`: a header block is due to a connection whose option is on
+-- NATS documentation, "Client Protocol", "CONNECT", `headers`: a header block is due to a
+-- connection whose option is on
 abbrev pub headers_due : Content → Bool → Option (List ℕ)
 headers_due content option = if option then content.headers else None
 
@@ -11,8 +12,8 @@ headers_due content option = if option then content.headers else None
 abbrev pub due_body : Content → Bool → List ℕ
 due_body content option = body_bytes (headers_due content option) content.payload
 
--- ---- NATS documentation, "Client Protocol": `MSG <subject> <sid> [reply-to] <#bytes>`, and with a header block
--- `HMSG <subject> <sid> [reply-to] <#header bytes> <#total bytes>`
+-- ---- NATS documentation, "Client Protocol": `MSG <subject> <sid> [reply-to] <#bytes>`, and with a
+-- header block `HMSG <subject> <sid> [reply-to] <#header bytes> <#total bytes>`
 
 abbrev pub operation : Option (List ℕ) → List ℕ
 operation None = codes "MSG "
@@ -32,14 +33,20 @@ block_field (Some block) = decimal (length block) ++ codes " "
 
 -- behind the sid, with the blank between; the same for all subscribers of one option
 abbrev pub behind_sid : Content → Option (List ℕ) → List ℕ
-behind_sid content headers = codes " " ++ (reply_field content.reply ++ (block_field headers ++ decimal (length (body_bytes headers content.payload))))
+behind_sid content headers =
+    codes " "
+    ++ (reply_field content.reply
+    ++ (block_field headers ++ decimal (length (body_bytes headers content.payload))))
 
 pub record LineParts : Type 0 where
   pub before : List ℕ
   pub behind : List ℕ
 
 abbrev pub parts_with : Content → Option (List ℕ) → LineParts
-parts_with content headers = record { before = before_sid content headers; behind = behind_sid content headers }
+parts_with content headers = record {
+  before = before_sid content headers;
+  behind = behind_sid content headers;
+}
 
 abbrev pub line_parts : Content → Bool → LineParts
 line_parts content option = parts_with content (headers_due content option)
@@ -53,7 +60,8 @@ due_line content sid option = line_around (line_parts content option) sid
 
 -- the whole message
 abbrev pub due_bytes : Content → List ℕ → Bool → List ℕ
-due_bytes content sid option = due_line content sid option ++ (line_end ++ (due_body content option ++ line_end))
+due_bytes content sid option =
+    due_line content sid option ++ (line_end ++ (due_body content option ++ line_end))
 
 -- ---- both forms
 
@@ -74,13 +82,16 @@ form_for forms option = if option then forms.headed else forms.plain
 
 -- ---- the message in two parts
 
--- up to the sid and with it, as it is in front of a header block; its first byte is left out in front of none
+-- up to the sid and with it, as it is in front of a header block; its first byte is left out in
+-- front of none
 abbrev pub head_bytes : List ℕ → List ℕ → List ℕ
 head_bytes subject sid = codes "HMSG " ++ (subject ++ (codes " " ++ sid))
 
 -- behind the sid; the same for all subscribers of one option
 abbrev pub tail_bytes : Content → Bool → List ℕ
-tail_bytes content option = behind_sid content (headers_due content option) ++ (line_end ++ (due_body content option ++ line_end))
+tail_bytes content option =
+    behind_sid content (headers_due content option)
+    ++ (line_end ++ (due_body content option ++ line_end))
 
 -- what stands behind the sid in both forms, and whether the message has a header block
 pub record Tails : Type 0 where
@@ -89,7 +100,11 @@ pub record Tails : Type 0 where
   pub has_block : Bool
 
 abbrev pub tails_of : Content → Tails
-tails_of content = record { plain = tail_bytes content false; headed = tail_bytes content true; has_block = is_some content.headers }
+tails_of content = record {
+  plain = tail_bytes content false;
+  headed = tail_bytes content true;
+  has_block = is_some content.headers;
+}
 
 abbrev pub tail_for : Tails → Bool → List ℕ
 tail_for tails option = if option then tails.headed else tails.plain

@@ -21,7 +21,8 @@ operations = Pub ∷ Hpub ∷ Sub ∷ Ping ∷ Pong ∷ Unsub ∷ Connect ∷ []
 -- the first of these whose word the field is, whatever the case of its letters
 abbrev pub operation_among : List Operation → List ℕ → Option Operation
 operation_among [] field = None
-operation_among (operation ∷ others) field = if is_word (word_of operation) field then Some operation else operation_among others field
+operation_among (operation ∷ others) field =
+    if is_word (word_of operation) field then Some operation else operation_among others field
 
 abbrev pub operation_of : List ℕ → Option Operation
 operation_of field = operation_among operations field

@@ -17,7 +17,8 @@ use Rattle.client_frames.specs.Lines.{line_meaning, publication_fault, membershi
 -- ---- what stands behind an operation
 
 -- some text, which chooses these options
-pub record SpellsConnect (text : List ℕ) (arguments : List (List ℕ)) (options : Options) : Type 0 where
+pub record SpellsConnect (text : List ℕ) (arguments : List (List ℕ)) (options : Options) :
+    Type 0 where
   pub some : ¬ (arguments ≡ [])
   pub chosen : options_of text ≡ Some options
 
@@ -25,13 +26,15 @@ pub record SpellsConnect (text : List ℕ) (arguments : List (List ℕ)) (option
 abbrev pub outer_fields : List ℕ → Option (List ℕ) → List ℕ → List (List ℕ)
 outer_fields first between last = first ∷ (option_to_list between ++ last ∷ [])
 
-pub record SpellsPub (arguments : List (List ℕ)) (subject : List ℕ) (reply : Option (List ℕ)) (size : ℕ) : Type 0 where
+pub record SpellsPub (arguments : List (List ℕ)) (subject : List ℕ) (reply : Option (List ℕ))
+    (size : ℕ) : Type 0 where
   pub digits : List ℕ
   pub are : arguments ≡ outer_fields subject reply digits
   pub is_size : count_of digits ≡ Some size
 
 -- the size of the header block comes before that of the whole, of which it is a part
-pub record SpellsHpub (arguments : List (List ℕ)) (subject : List ℕ) (reply : Option (List ℕ)) (block size : ℕ) : Type 0 where
+pub record SpellsHpub (arguments : List (List ℕ)) (subject : List ℕ) (reply : Option (List ℕ))
+    (block size : ℕ) : Type 0 where
   pub block_digits : List ℕ
   pub digits : List ℕ
   pub are : arguments ≡ outer_fields subject reply block_digits ++ (digits ∷ [])
@@ -46,7 +49,8 @@ publishing (Some block) = operation.Hpub
 
 abbrev pub SpellsPublication : List (List ℕ) → List ℕ → Option (List ℕ) → Option ℕ → ℕ → Type 0
 SpellsPublication arguments subject reply None size = SpellsPub arguments subject reply size
-SpellsPublication arguments subject reply (Some block) size = SpellsHpub arguments subject reply block size
+SpellsPublication arguments subject reply (Some block) size =
+    SpellsHpub arguments subject reply block size
 
 pub record SpellsBadPub (named : Operation) (arguments : List (List ℕ)) (size : ℕ) : Type 0 where
   pub headers : Option ℕ
@@ -57,14 +61,16 @@ pub record SpellsBadPub (named : Operation) (arguments : List (List ℕ)) (size 
   pub bad : is_some (publication_fault subject reply) ≡ true
 
 -- a pattern, good or bad, the name of a queue group, where there is one, and a subscription id
-pub record SpellsSub (arguments : List (List ℕ)) (pattern : List ℕ) (queue : Option (List ℕ)) (sid : List ℕ) : Type 0 where
+pub record SpellsSub (arguments : List (List ℕ)) (pattern : List ℕ) (queue : Option (List ℕ))
+    (sid : List ℕ) : Type 0 where
   pub are : arguments ≡ outer_fields pattern queue sid
   pub are_names : is_some (membership_fault queue sid) ≡ false
 
 -- the maximum, where there is one
 abbrev pub SpellsMaximum : List (List ℕ) → Option ℕ → Type 0
 SpellsMaximum fields None = fields ≡ []
-SpellsMaximum fields (Some max) = (digits : List ℕ) × (fields ≡ digits ∷ []) × (count_of digits ≡ Some max)
+SpellsMaximum fields (Some max) =
+    (digits : List ℕ) × (fields ≡ digits ∷ []) × (count_of digits ≡ Some max)
 
 pub record SpellsUnsub (arguments : List (List ℕ)) (sid : List ℕ) (max : Option ℕ) : Type 0 where
   pub behind : List (List ℕ)
@@ -76,17 +82,25 @@ pub record SpellsUnsub (arguments : List (List ℕ)) (sid : List ℕ) (max : Opt
 
 -- an operation, and the text behind it, which has these fields, spell a command
 abbrev pub TextSpells : Operation → List ℕ → List (List ℕ) → ClientLine → Type 0
-TextSpells named text arguments (Connect options) = (named ≡ operation.Connect) × SpellsConnect text arguments options
+TextSpells named text arguments (Connect options) =
+    (named ≡ operation.Connect) × SpellsConnect text arguments options
 TextSpells named text arguments (Pub head) =
-    (named ≡ publishing head.headers) × SpellsPublication arguments head.subject head.reply head.headers head.size × (is_some (publication_fault head.subject head.reply) ≡ false)
+    (named ≡ publishing head.headers)
+    × SpellsPublication arguments head.subject head.reply head.headers head.size
+    × (is_some (publication_fault head.subject head.reply) ≡ false)
 TextSpells named text arguments (PubBad size) = SpellsBadPub named arguments size
-TextSpells named text arguments (Sub pattern queue sid) = (named ≡ operation.Sub) × SpellsSub arguments pattern queue sid × (is_some (pattern_fault pattern) ≡ false)
-TextSpells named text arguments (Unsub sid max) = (named ≡ operation.Unsub) × SpellsUnsub arguments sid max
+TextSpells named text arguments (Sub pattern queue sid) =
+    (named ≡ operation.Sub)
+    × SpellsSub arguments pattern queue sid
+    × (is_some (pattern_fault pattern) ≡ false)
+TextSpells named text arguments (Unsub sid max) =
+    (named ≡ operation.Unsub) × SpellsUnsub arguments sid max
 TextSpells named text arguments Ping = named ≡ operation.Ping
 TextSpells named text arguments Pong = named ≡ operation.Pong
 
 -- a line is a field that names an operation, and a text with these fields
-pub record IsOperationOn (operation : Operation) (text : List ℕ) (arguments : List (List ℕ)) (line : List ℕ) : Type 0 where
+pub record IsOperationOn (operation : Operation) (text : List ℕ) (arguments : List (List ℕ))
+    (line : List ℕ) : Type 0 where
   pub field : List ℕ
   pub whole : line ≡ field ++ text
   pub fields : IsLineOf field arguments line
@@ -103,11 +117,14 @@ pub record Spells (line : List ℕ) (command : ClientLine) : Type 0 where
 -- ---- what a line means is what it spells
 
 abbrev pub MeansWhatItSpells : Type 0
-MeansWhatItSpells = (line : List ℕ) (command : ClientLine) → Spells line command → line_meaning line ≡ Ok command
+MeansWhatItSpells =
+    (line : List ℕ) (command : ClientLine) → Spells line command → line_meaning line ≡ Ok command
 
 abbrev pub SpellsWhatItMeans : Type 0
-SpellsWhatItMeans = (line : List ℕ) (command : ClientLine) → line_meaning line ≡ Ok command → Spells line command
+SpellsWhatItMeans =
+    (line : List ℕ) (command : ClientLine) → line_meaning line ≡ Ok command → Spells line command
 
 -- no line spells two commands
 abbrev pub SpellsOneCommand : Type 0
-SpellsOneCommand = (line : List ℕ) (one other : ClientLine) → Spells line one → Spells line other → one ≡ other
+SpellsOneCommand =
+    (line : List ℕ) (one other : ClientLine) → Spells line one → Spells line other → one ≡ other

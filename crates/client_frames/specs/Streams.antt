@@ -20,7 +20,8 @@ pub data StreamItem : Type 0 where
   asked : ClientLine → StreamItem
   -- a publication, once all is there that its line announces
   published : PubHead → List ℕ → StreamItem
-  -- a line that is refused, or a publication with a bad subject, a bad reply or bad headers, once all is there
+  -- a line that is refused, or a publication with a bad subject, a bad reply or bad headers, once
+  -- all is there
   refused : LineFault → StreamItem
   -- what is no line and no payload
   unreadable : CutFault → StreamItem
@@ -37,7 +38,8 @@ headers_awaited Line = None
 headers_awaited (Payload head) = head.headers
 headers_awaited (LostPayload size) = None
 
--- ---- NATS documentation, "Client Protocol", "HPUB": the bytes that a line announces are the header block, and behind it the payload
+-- ---- NATS documentation, "Client Protocol", "HPUB": the bytes that a line announces are the
+-- header block, and behind it the payload
 
 abbrev pub block_in : Option ℕ → List ℕ → Option (List ℕ)
 block_in None bytes = None
@@ -49,9 +51,11 @@ payload_in (Some size) bytes = drop size bytes
 
 -- profile: a header block that is none is told, and nothing is published
 abbrev pub item_of : PubHead → List ℕ → StreamItem
-item_of head bytes = if are_headers (block_in head.headers bytes) then published head bytes else refused BadHeader
+item_of head bytes =
+    if are_headers (block_in head.headers bytes) then published head bytes else refused BadHeader
 
--- ---- what a piece tells: NATS documentation, "Client Protocol"; when a refusal closes is this project's profile
+-- ---- what a piece tells: NATS documentation, "Client Protocol"; when a refusal closes is this
+-- project's profile
 
 abbrev pub told_at_once : ClientLine → Told Awaited StreamItem
 told_at_once command = going_on (asked command ∷ []) Line
@@ -68,7 +72,8 @@ command_told Pong = told_at_once Pong
 
 abbrev pub refusal_told : LineFault → Told Awaited StreamItem
 refusal_told fault =
-    if text_closes (line_fault_text fault) then ending (refused fault ∷ []) else going_on (refused fault ∷ []) Line
+    if text_closes (line_fault_text fault) then ending (refused fault ∷ [])
+    else going_on (refused fault ∷ []) Line
 
 abbrev pub line_told : Meaning → Told Awaited StreamItem
 line_told (Ok command) = command_told command

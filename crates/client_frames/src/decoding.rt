@@ -74,8 +74,13 @@ impl<'a> Arguments<'a> {
     /// The fields of a text, where these are two or three.
     #[inline(always)]
     pub(crate) fn read(text: &'a [u8]) -> Option<Arguments<'a>>
-        ensures { MatchOption result (two_or_three (fields text.now) ≡ None) (λ a. two_or_three (fields text.now)
-            ≡ Some (record { first = a.first.now; between = option_copied a.between; last = a.last.now })) }
+        ensures { MatchOption result (two_or_three (fields text.now) ≡ None) (λ a.
+            two_or_three (fields text.now)
+            ≡ Some (record {
+              first = a.first.now;
+              between = option_copied a.between;
+              last = a.last.now;
+            })) }
     {
         let (first, behind) = split_field(text)?;
         let (second, behind) = split_field(behind)?;
@@ -109,8 +114,14 @@ pub(crate) struct HeadedArguments<'a> {
 impl<'a> HeadedArguments<'a> {
     /// The fields of a text, where these are three or four.
     pub(crate) fn read(text: &'a [u8]) -> Option<HeadedArguments<'a>>
-        ensures { MatchOption result (three_or_four (fields text.now) ≡ None) (λ a. three_or_four (fields text.now)
-            ≡ Some (record { first = a.first.now; between = option_copied a.between; block = a.block.now; whole = a.whole.now })) }
+        ensures { MatchOption result (three_or_four (fields text.now) ≡ None) (λ a.
+            three_or_four (fields text.now)
+            ≡ Some (record {
+              first = a.first.now;
+              between = option_copied a.between;
+              block = a.block.now;
+              whole = a.whole.now;
+            })) }
     {
         let (first, behind) = split_field(text)?;
         let (second, behind) = split_field(behind)?;
@@ -260,7 +271,8 @@ impl SharedTexts {
     /// where they are one.
     #[inline(always)]
     pub(crate) fn subject(&mut self, text: &[u8]) -> Result<Option<Subject>, AllocError>
-        ensures ok { IfOk result (λ subject. subject ≡ (if is_some (subject_fault text.now) then None else Some text.now)) }
+        ensures ok { IfOk result (λ subject.
+            subject ≡ (if is_some (subject_fault text.now) then None else Some text.now)) }
         ensures err { OnErr result (subject_fault text.now ≡ None) }
     {
         if let Some(last) = self.last_subject.take() {
@@ -378,7 +390,8 @@ fn decode_publication(
     headers: Option<u64>,
     size: u64,
 ) -> Result<ClientLine, Failure<LineFault>>
-    ensures { ClientLineMeans (Ok (publication subject.now (option_copied reply.entry) headers size)) result }
+    ensures { ClientLineMeans
+        (Ok (publication subject.now (option_copied reply.entry) headers size)) result }
 {
     if fault_of_reply(reply).is_some() {
         return Ok(ClientLine::PubBad { size });

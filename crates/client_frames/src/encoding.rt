@@ -39,7 +39,8 @@ pub const MAX_MESSAGE_LINE: usize = MAX_BEFORE + MAX_SID + MAX_BEHIND;
 #[inline(always)]
 fn before_sid(alloc: Global, operation: &[u8], message: &Message) -> Result<Vec<u8>, AllocError>
     requires { length operation.now ≤ 5 }
-    ensures same { IfOk result (λ text. text.items ≡ operation.now ++ (message.now.subject ++ codes " ")) }
+    ensures same { IfOk result (λ text.
+        text.items ≡ operation.now ++ (message.now.subject ++ codes " ")) }
     ensures fits { IfOk result (λ text. length text.items ≤ MAX_BEFORE) }
 {
     let subject = message.subject().bytes();
@@ -66,8 +67,10 @@ pub(crate) fn append_number(number: usize, text: &mut Vec<u8>) -> Result<(), All
 /// Appends the blank behind the subscription id, and the reply of a message with the blank behind it.
 #[inline(always)]
 pub(crate) fn append_reply(message: &Message, text: &mut Vec<u8>) -> Result<(), AllocError>
-    ensures same { OnOk result (text.new.items ≡ text.old.items ++ (codes " " ++ reply_field message.now.reply)) }
-    ensures fits { OnOk result (length text.new.items ≤ length text.old.items + 1 + MAX_SUBJECT + 1) }
+    ensures same { OnOk result
+        (text.new.items ≡ text.old.items ++ (codes " " ++ reply_field message.now.reply)) }
+    ensures fits { OnOk result
+        (length text.new.items ≤ length text.old.items + 1 + MAX_SUBJECT + 1) }
 {
     text.extend_from_slice(BLANK)?;
     let Some(reply) = message.reply() else {
@@ -96,9 +99,14 @@ impl Model for LineText {
 
     ghost Value = { LineParts };
 
-    ghost view = { λ line. record { before = take line.sid_at line.text.items; behind = drop line.sid_at line.text.items } };
+    ghost view = { λ line. record {
+      before = take line.sid_at line.text.items;
+      behind = drop line.sid_at line.text.items;
+    } };
 
-    ghost invariant = { λ line. (line.sid_at ≤ length line.text.items) × (length line.text.items + MAX_SID ≤ MAX_MESSAGE_LINE) };
+    ghost invariant = { λ line.
+        (line.sid_at ≤ length line.text.items)
+        × (length line.text.items + MAX_SID ≤ MAX_MESSAGE_LINE) };
 }
 
 impl LineText {
@@ -115,7 +123,8 @@ impl LineText {
 
     /// Of a message that goes with its header block; none where it has no block.
     fn headed(alloc: Global, message: &Message) -> Result<Option<LineText>, AllocError>
-        ensures { IfOk result (λ text. text ≡ option_map (λ block. parts_with message.now (Some block)) message.now.headers) }
+        ensures { IfOk result (λ text.
+            text ≡ option_map (λ block. parts_with message.now (Some block)) message.now.headers) }
     {
         let Some(block) = message.headers() else {
             return Ok(None);
@@ -162,7 +171,10 @@ impl Model for MessageLines {
 
     ghost Value = { LineForms };
 
-    ghost view = { λ lines. record { plain = lines.plain; headed = headed_or lines.plain lines.headed } };
+    ghost view = { λ lines. record {
+      plain = lines.plain;
+      headed = headed_or lines.plain lines.headed;
+    } };
 }
 
 impl MessageLines {
@@ -206,7 +218,8 @@ impl MessageLines {
         takes_headers: bool,
         out: &mut Vec<u8>,
     ) -> Result<(), AllocError>
-        ensures same { OnOk result (out.new.items ≡ line_around (form_for self.now takes_headers) sid.now) }
+        ensures same { OnOk result
+            (out.new.items ≡ line_around (form_for self.now takes_headers) sid.now) }
         ensures fits { OnOk result (length out.new.items ≤ MAX_MESSAGE_LINE) }
     {
         let form = self.form(takes_headers);
@@ -221,7 +234,8 @@ impl MessageLines {
 
     /// The line for one subscription, without its CR LF, at a connection that takes headers or does not.
     pub fn line(&self, sid: &Sid, takes_headers: bool) -> Result<Vec<u8>, AllocError>
-        ensures same { IfOk result (λ line. line.items ≡ line_around (form_for self.now takes_headers) sid.now) }
+        ensures same { IfOk result (λ line.
+            line.items ≡ line_around (form_for self.now takes_headers) sid.now) }
         ensures fits { IfOk result (λ line. length line.items ≤ MAX_MESSAGE_LINE) }
     {
         let form = self.form(takes_headers);
@@ -284,7 +298,9 @@ fn reply_len(message: &Message) -> usize
 /// How many bytes more the line has of a message that goes with its header block: of the operation, and of the size of the block with
 /// the blank behind it. 0 where it goes without one.
 fn block_len(message: &Message, takes_headers: bool) -> usize
-    ensures same { 4 + result ≡ length (operation (headers_due message.now takes_headers)) + length (block_field (headers_due message.now takes_headers)) }
+    ensures same { 4 + result
+        ≡ length (operation (headers_due message.now takes_headers))
+        + length (block_field (headers_due message.now takes_headers)) }
     ensures most { result ≤ 1 + MAX_DIGITS + 1 }
 {
     match message.headers() {
@@ -296,7 +312,8 @@ fn block_len(message: &Message, takes_headers: bool) -> usize
 /// How many bytes a message has for a subscription of a connection that takes headers or does not, its line and what stands behind it
 /// with their CR LF, beside those of the id of the subscription. Takes no memory.
 pub fn message_len(message: &Message, takes_headers: bool) -> usize
-    ensures len { (sid : List ℕ) → length (due_bytes message.now sid takes_headers) ≡ result + length sid }
+    ensures len { (sid : List ℕ)
+        → length (due_bytes message.now sid takes_headers) ≡ result + length sid }
     ensures some { 1 ≤ result }
 {
     let body = message_body(message, takes_headers).len();
@@ -341,7 +358,8 @@ fn encode_reply(reply: &ReplyFrame, out: &mut Vec<u8>) -> Result<(), AllocError>
 
 fn encode_delivery(delivery: &Delivery, out: &mut Vec<u8>) -> Result<(), AllocError>
     ensures { out.new.items
-        ≡ (if is_ok result then out.old.items ++ frame_bytes (Msg delivery.now) else out.old.items) }
+        ≡ (if is_ok result then out.old.items ++ frame_bytes (Msg delivery.now)
+        else out.old.items) }
 {
     let (message, takes_headers) = (&delivery.message, delivery.takes_headers);
     let line = message_line(*out.allocator(), message, &delivery.sid, takes_headers)?;

@@ -84,7 +84,8 @@ fn write_plain(message: &Message, out: &mut Vec<u8>) -> Result<(), AllocError>
 /// block, and for want of memory. Whether it has one.
 fn write_headed(message: &Message, out: &mut Vec<u8>) -> Result<bool, AllocError>
     ensures same { IfOk result (λ has_block. has_block ≡ is_some message.now.headers) }
-    ensures text { IfOk result (λ has_block. has_block ≡ true → out.new.items ≡ tail_bytes message.now true) }
+    ensures text { IfOk result (λ has_block.
+        has_block ≡ true → out.new.items ≡ tail_bytes message.now true) }
     ensures fits { length out.new.items ≤ MAX_TAIL }
 {
     out.clear();
@@ -117,9 +118,14 @@ impl Model for MessageTails {
 
     ghost Value = { Tails };
 
-    ghost view = { λ tails. record { plain = tails.plain.items; headed = if tails.has_block then tails.headed.items else tails.plain.items; has_block = tails.has_block } };
+    ghost view = { λ tails. record {
+      plain = tails.plain.items;
+      headed = if tails.has_block then tails.headed.items else tails.plain.items;
+      has_block = tails.has_block;
+    } };
 
-    ghost invariant = { λ tails. (length tails.plain.items ≤ MAX_TAIL) × (length tails.headed.items ≤ MAX_TAIL) };
+    ghost invariant = { λ tails.
+        (length tails.plain.items ≤ MAX_TAIL) × (length tails.headed.items ≤ MAX_TAIL) };
 }
 
 impl MessageTails {

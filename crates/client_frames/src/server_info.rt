@@ -45,7 +45,8 @@ impl ServerInfo {
         host: HostText,
         port: u16,
     ) -> Result<ServerInfo, AllocError>
-        ensures { IfOk result (λ info. info ≡ record { name = name; inc = inc; host = host.bytes; port = port }) }
+        ensures { IfOk result (λ info.
+            info ≡ record { name = name; inc = inc; host = host.bytes; port = port }) }
     {
         let parts = ServerParts {
             name,

@@ -3,44 +3,35 @@
 ghost use Rattle.std.specs.Prelude.{◌≡◌};
 ghost use Rattle.hub_core.specs.Faults.{hub_fault_number};
 
+use std::error::Error;
+use std::fmt;
+use std::fmt::{Display, Formatter, Write};
 use subj::Busy;
-use thiserror::Error;
 
 /// Why a hub refuses an event. (Profile.)
-#[derive(Clone, Copy, Debug, PartialEq, Eq, Error)]
+#[derive(Clone, Copy, Debug, PartialEq, Eq)]
 pub enum HubFault {
     /// The server drains already.
-    #[error("the server drains already")]
     Draining,
     /// A shard is a whole window behind: no turn can be issued.
-    #[error("{0}")]
     Busy(Busy),
     /// A publication would reach too many queue names.
-    #[error("the publication would reach too many queue names")]
     TooManyQueues,
     /// A counter has come to its limit.
-    #[error("a counter has come to its limit")]
     Spent,
     /// A frame is for another server.
-    #[error("the frame is for another server")]
     NotMe,
     /// A frame is for another incarnation of this server.
-    #[error("the frame is for another incarnation of this server")]
     OtherMe,
     /// A frame is of a server that is not listed, or of this one.
-    #[error("the frame is of no other server of the cluster")]
     NotInCluster,
     /// A frame is of an incarnation below the greatest seen of its server.
-    #[error("the frame is of an incarnation below the greatest seen of its server")]
     StaleOrigin,
     /// A publication or a change of interest was taken already.
-    #[error("the publication or the change was taken already")]
     Late,
     /// A change of interest is not the next one.
-    #[error("the change is not the next one")]
     Gap,
     /// A change of interest does not fit what it changes.
-    #[error("the change does not fit what it changes")]
     BadInterest,
 }
 
@@ -64,3 +55,25 @@ impl HubFault {
         }
     }
 }
+
+impl Display for HubFault {
+    fn fmt<W: Write>(&self, f: &mut Formatter<W>) -> fmt::Result {
+        let text = match self {
+            HubFault::Busy(busy) => return write!(f, "{busy}"),
+            HubFault::Draining => "the server drains already",
+            HubFault::TooManyQueues => "the publication would reach too many queue names",
+            HubFault::Spent => "a counter has come to its limit",
+            HubFault::NotMe => "the frame is for another server",
+            HubFault::OtherMe => "the frame is for another incarnation of this server",
+            HubFault::NotInCluster => "the frame is of no other server of the cluster",
+            HubFault::StaleOrigin =>
+                "the frame is of an incarnation below the greatest seen of its server",
+            HubFault::Late => "the publication or the change was taken already",
+            HubFault::Gap => "the change is not the next one",
+            HubFault::BadInterest => "the change does not fit what it changes",
+        };
+        f.write_str(text)
+    }
+}
+
+impl Error for HubFault {}

@@ -35,18 +35,24 @@ abbrev pub count_after : Bool → ℕ → ℕ
 count_after up count = if up then count + 1 else count - 1
 
 abbrev pub with_count : Counts → Key → ℕ → Counts
-with_count counts key count = if nat_eq count 0 then remove_entry (is_at (key_cmp key)) counts else insert_entry key_cmp counts key count
+with_count counts key count =
+    if nat_eq count 0 then remove_entry (is_at (key_cmp key)) counts
+    else insert_entry key_cmp counts key count
 
 unfoldable pub counts_after : Counts → Delta → Counts
-counts_after counts delta = with_count counts delta.key (count_after delta.up (count_of counts delta.key))
+counts_after counts delta =
+    with_count counts delta.key (count_after delta.up (count_of counts delta.key))
 
 -- profile: one more key would be too many, or of too many bytes
 abbrev pub is_full : Counts → Key → Bool
-is_full counts key = nat_le MAX_KEYS (length counts) || nat_lt SUBSCRIPTION_BYTES (total_cost counts + cost_of key)
+is_full counts key =
+    nat_le MAX_KEYS (length counts) || nat_lt SUBSCRIPTION_BYTES (total_cost counts + cost_of key)
 
 -- profile: there would be too many keys, too many subscriptions of the key, or too many bytes
 abbrev pub is_too_much : Counts → Key → Bool
-is_too_much counts key = if nat_eq (count_of counts key) 0 then is_full counts key else nat_le MAX_WEIGHT (count_of counts key)
+is_too_much counts key =
+    if nat_eq (count_of counts key) 0 then is_full counts key
+    else nat_le MAX_WEIGHT (count_of counts key)
 
 abbrev pub too_many_if : Bool → Option InterestFault
 too_many_if there = if there then Some TooManyKeys else None
@@ -60,14 +66,17 @@ delta_fault counts delta =
 abbrev pub told_weight : Key → ℕ → ℕ
 told_weight key count = if is_plain key then 1 else count
 
--- NATS documentation, "Cluster Protocol": `RS+` and `RS-`; profile: a plain key is told of on its first opening and its last closing, a queue key each time
+-- NATS documentation, "Cluster Protocol": `RS+` and `RS-`; profile: a plain key is told of on its
+-- first opening and its last closing, a queue key each time
 abbrev pub change_between : Key → ℕ → ℕ → Option Change
 change_between key before after =
     if nat_eq after 0 then Some (Gone key)
     else (if is_plain key && nat_lt 0 before then None else Some (Up (key, told_weight key after)))
 
 unfoldable pub change_of : Counts → Delta → Option Change
-change_of counts delta = change_between delta.key (count_of counts delta.key) (count_after delta.up (count_of counts delta.key))
+change_of counts delta =
+    change_between delta.key (count_of counts delta.key)
+    (count_after delta.up (count_of counts delta.key))
 
 -- some plain key matches the subject
 abbrev pub is_plain_match : List ℕ → Key × ℕ → Bool
@@ -80,7 +89,8 @@ pub record IsInterest (counts : Counts) : Type 0 where
   pub few : length counts ≤ MAX_KEYS
   pub small : total_cost counts ≤ SUBSCRIPTION_BYTES
 
--- counts as they are kept: with what the keys count together, and with so many places, which are enough for all keys that may come
+-- counts as they are kept: with what the keys count together, and with so many places, which are
+-- enough for all keys that may come
 pub record IsKept (counts : Counts) (cost places : ℕ) : Type 0 where
   pub valid : IsInterest counts
   pub cost_is : cost ≡ total_cost counts

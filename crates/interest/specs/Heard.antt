@@ -31,7 +31,10 @@ news_fault heard (Changed number change) = change_fault heard.mark heard.keys nu
 news_fault heard (Whole number keys) = snapshot_fault heard.mark number keys
 
 abbrev pub heard_after : Heard → News → Heard
-heard_after heard (Changed number change) = record { mark = number; keys = view_with_change change heard.keys }
+heard_after heard (Changed number change) = record {
+  mark = number;
+  keys = view_with_change change heard.keys;
+}
 heard_after heard (Whole number keys) = record { mark = number; keys = keys }
 
 -- what is refused changes nothing

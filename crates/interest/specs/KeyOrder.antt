@@ -5,4 +5,6 @@ use Rattle.subj.specs.declared.keys.Key.{Key}
 use Rattle.subj.specs.Keys.{key_cmp}
 
 pub key_order_total : IsTotalOrder key_cmp
-key_order_total = then_total (on_total (λ (key : Key). key.pattern) nat_list_cmp_total) (on_total (λ (key : Key). key.queue) (options_total nat_list_cmp_total))
+key_order_total =
+    then_total (on_total (λ (key : Key). key.pattern) nat_list_cmp_total)
+    (on_total (λ (key : Key). key.queue) (options_total nat_list_cmp_total))

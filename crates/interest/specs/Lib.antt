@@ -10,9 +10,11 @@ pub mod Counts
 pub mod KeysLeft
 -- the counts are those of the open: what was told of openings and closings, key by key
 pub mod Told
--- deltas counted in order without a table: what each makes of a number, of a total and of what is told
+-- deltas counted in order without a table: what each makes of a number, of a total and of what is
+-- told
 pub mod Tally
--- many keys take their numbers at once: what stands below a key goes on, the key takes its number, and so on
+-- many keys take their numbers at once: what stands below a key goes on, the key takes its number,
+-- and so on
 pub mod Recounts
 -- interest views: what a peer has told of its interest
 pub mod Views

@@ -9,7 +9,8 @@ use Rattle.route_values.specs.Snapshots.{Weighted}
 use Rattle.subj.specs.declared.keys.Key.{Key}
 use Rattle.interest.specs.Counts.{is_plain, is_plain_match}
 
--- NATS documentation, "Queue Groups": a subscription without a queue name gets each message that matches
+-- NATS documentation, "Queue Groups": a subscription without a queue name gets each message that
+-- matches
 abbrev pub has_plain_match : List ℕ → List Weighted → Bool
 has_plain_match subject keys = list_any (is_plain_match subject) keys
 
@@ -19,7 +20,8 @@ abbrev pub is_of_kind : Bool → Key → Bool
 is_of_kind plain key = if plain then is_plain key else not (is_plain key)
 
 abbrev pub is_kind_match : Bool → List ℕ → Weighted → Bool
-is_kind_match plain subject entry = is_of_kind plain entry.0 && subject_matches entry.0.pattern subject
+is_kind_match plain subject entry =
+    is_of_kind plain entry.0 && subject_matches entry.0.pattern subject
 
 abbrev pub has_kind_match : Bool → List ℕ → List Weighted → Bool
 has_kind_match plain subject keys = list_any (is_kind_match plain subject) keys
@@ -31,7 +33,8 @@ has_queue_match subject keys = has_kind_match false subject keys
 -- ---- how much a queue group weighs
 
 abbrev pub is_match_of : List ℕ → List ℕ → Weighted → Bool
-is_match_of subject name entry = is_named name entry.0.queue && subject_matches entry.0.pattern subject
+is_match_of subject name entry =
+    is_named name entry.0.queue && subject_matches entry.0.pattern subject
 
 abbrev pub matching_weight : List ℕ → List ℕ → Weighted → ℕ
 matching_weight subject name entry = if is_match_of subject name entry then entry.1 else 0
@@ -47,7 +50,8 @@ has_name name names = list_any (bytes_eq name) names
 
 abbrev pub place_name : List ℕ → List (List ℕ) → List (List ℕ)
 place_name name [] = name ∷ []
-place_name name (other ∷ others) = if is_before name other then name ∷ other ∷ others else other ∷ place_name name others
+place_name name (other ∷ others) =
+    if is_before name other then name ∷ other ∷ others else other ∷ place_name name others
 
 abbrev pub add_name : List ℕ → List (List ℕ) → List (List ℕ)
 add_name name names = if has_name name names then names else place_name name names
@@ -59,7 +63,8 @@ add_queue matches (Some name) names = if matches then add_name name names else n
 -- those of these keys, added to the names
 abbrev pub names_in : List ℕ → List Weighted → List (List ℕ) → List (List ℕ)
 names_in subject [] names = names
-names_in subject (entry ∷ keys) names = names_in subject keys (add_queue (subject_matches entry.0.pattern subject) entry.0.queue names)
+names_in subject (entry ∷ keys) names =
+    names_in subject keys (add_queue (subject_matches entry.0.pattern subject) entry.0.queue names)
 
 -- ---- what gathers them has places for the names of one publication
 

@@ -43,7 +43,8 @@ abbrev pub Begins : List ℕ → List ℕ → Type 0
 Begins beginning text = (rest : List ℕ) × (text ≡ beginning ++ rest)
 
 abbrev pub MatchesFrom : List ℕ → List ℕ → List ℕ → Type 0
-MatchesFrom pattern subject text = (is_before text pattern ≡ false) × (subject_matches text subject ≡ true)
+MatchesFrom pattern subject text =
+    (is_before text pattern ≡ false) × (subject_matches text subject ≡ true)
 
 -- what the first tokens of a pattern and of a subject tell
 abbrev pub IsLevelOf : List ℕ → List ℕ → Level → Type 0
@@ -51,10 +52,13 @@ IsLevelOf rest subject Ends = subject_matches rest subject ≡ true
 IsLevelOf rest subject (Further width left) =
     (width ≤ length rest)
     × (length left.now < length subject)
-    × ((text : List ℕ) → subject_matches (take width rest ++ text) subject ≡ subject_matches text left.now)
-    × ((text : List ℕ) → MatchesFrom rest subject text → Begins (take width rest) text ⊎ IsFrom (next_of rest subject) text)
+    × ((text : List ℕ)
+    → subject_matches (take width rest ++ text) subject ≡ subject_matches text left.now)
+    × ((text : List ℕ) → MatchesFrom rest subject text
+    → Begins (take width rest) text ⊎ IsFrom (next_of rest subject) text)
 IsLevelOf rest subject Apart =
-    (subject_matches rest subject ≡ false) × ((text : List ℕ) → MatchesFrom rest subject text → IsFrom (next_of rest subject) text)
+    (subject_matches rest subject ≡ false)
+    × ((text : List ℕ) → MatchesFrom rest subject text → IsFrom (next_of rest subject) text)
 
 -- ---- what a pattern tells
 
@@ -73,7 +77,9 @@ later before (Some last) known = Some (before ++ last)
 abbrev pub IsSightOf : List ℕ → List ℕ → Sight → Type 0
 IsSightOf pattern subject Match = subject_matches pattern subject ≡ true
 IsSightOf pattern subject (Before beginning) =
-    (subject_matches pattern subject ≡ false) × ((text : List ℕ) → MatchesFrom pattern subject text → is_before text (text_of beginning) ≡ false)
+    (subject_matches pattern subject ≡ false)
+    × ((text : List ℕ) → MatchesFrom pattern subject text
+    → is_before text (text_of beginning) ≡ false)
 IsSightOf pattern subject Nothing = (text : List ℕ) → MatchesFrom pattern subject text → ⊥
 
 abbrev pub sight_of : Option Beginning → Sight

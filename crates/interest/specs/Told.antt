@@ -20,18 +20,25 @@ counts_told counts (delta ∷ deltas) = counts_told (counts_after counts delta) 
 
 abbrev pub AreTaken : Counts → List Delta → Type 0
 AreTaken counts [] = Unit {0}
-AreTaken counts (delta ∷ deltas) = (delta_fault counts delta ≡ None) × AreTaken (counts_after counts delta) deltas
+AreTaken counts (delta ∷ deltas) =
+    (delta_fault counts delta ≡ None) × AreTaken (counts_after counts delta) deltas
 
 -- what peers are told of these deltas
 abbrev pub changes_told : Counts → List Delta → List Change
 changes_told counts [] = []
-changes_told counts (delta ∷ deltas) = option_to_list (change_of counts delta) ++ changes_told (counts_after counts delta) deltas
+changes_told counts (delta ∷ deltas) =
+    option_to_list (change_of counts delta) ++ changes_told (counts_after counts delta) deltas
 
 -- one of these deltas would be refused
 abbrev pub are_refused : Counts → List Delta → Bool
 are_refused counts [] = false
-are_refused counts (delta ∷ deltas) = is_some (delta_fault counts delta) || are_refused (counts_after counts delta) deltas
+are_refused counts (delta ∷ deltas) =
+    is_some (delta_fault counts delta) || are_refused (counts_after counts delta) deltas
 
 -- the number of a key is that of its openings that were not followed by a closing
 abbrev pub CountsOpen : Type 0
-CountsOpen = (deltas : List Delta) (key : Key) → AreTaken [] deltas → count_of (counts_told [] deltas) key + count_by (is_closing key) deltas ≡ count_by (is_opening key) deltas
+CountsOpen =
+    (deltas : List Delta) (key : Key)
+    → AreTaken [] deltas
+    → count_of (counts_told [] deltas) key + count_by (is_closing key) deltas
+    ≡ count_by (is_opening key) deltas

@@ -33,7 +33,8 @@ same_views (x ∷ xs) (y ∷ ys) = (is_eq (key_cmp x.0 y.0) && nat_eq x.1 y.1) &
 abbrev pub has_key : View → Key → Bool
 has_key view key = is_some (lookup (is_at (key_cmp key)) view)
 
--- NATS documentation, "Cluster Protocol": `RS+` says that the key is there, `RS-` that it is gone; the weight told takes the place of the one before
+-- NATS documentation, "Cluster Protocol": `RS+` says that the key is there, `RS-` that it is gone;
+-- the weight told takes the place of the one before
 abbrev pub view_with_change : Change → View → View
 view_with_change (Up weighted) view = insert_entry key_cmp view weighted.0 weighted.1
 view_with_change (Gone key) view = remove_entry (is_at (key_cmp key)) view
@@ -57,7 +58,9 @@ view_at changes count = view_after (take count changes) []
 
 -- a key that is not there can't go, and a new key may be one too many
 abbrev pub follow_fault : View → Change → Option InterestFault
-follow_fault view (Up weighted) = if not (has_key view weighted.0) && nat_le MAX_KEYS (length view) then Some TooManyKeys else None
+follow_fault view (Up weighted) =
+    if not (has_key view weighted.0) && nat_le MAX_KEYS (length view) then Some TooManyKeys
+    else None
 follow_fault view (Gone key) = if has_key view key then None else Some UnknownKey
 follow_fault view Clear = None
 

@@ -71,7 +71,8 @@ pub(crate) fn change(
 /// The place of the key, or the one where it would stand.
 fn place_of(entries: &[(Key, u64)], key: &Key) -> Result<usize, usize>
     requires { IsStrictlySortedBy key_cmp (keys_of entries.now) }
-    ensures { MatchResult result (IsPlaceOf key_cmp key.now entries.now) (IsGapFor key_cmp key.now entries.now) }
+    ensures { MatchResult result (IsPlaceOf key_cmp key.now entries.now)
+        (IsGapFor key_cmp key.now entries.now) }
 {
     entries.binary_search_by(|entry| entry.0.order(key))
 }
@@ -117,7 +118,8 @@ impl Model for Local {
 
     ghost view = { λ local. local.entries.items };
 
-    ghost invariant = { λ local. IsKept local.entries.items local.bytes (vec_capacity local.entries) };
+    ghost invariant = { λ local.
+        IsKept local.entries.items local.bytes (vec_capacity local.entries) };
 }
 
 impl Local {
@@ -141,7 +143,10 @@ impl Local {
     /// [`MAX_WEIGHT`], or keys of more bytes than [`SUBSCRIPTION_BYTES`]; 42 where a closing is of a
     /// key that has no open subscription. Any `Err` leaves all as it was.
     pub fn apply(&mut self, delta: &Delta) -> Result<Option<Change>, Failure<InterestFault>>
-        ensures { IsAnswered (delta_fault self.old delta.now) (λ change. (change ≡ change_of self.old delta.now) × (self.new ≡ counts_after self.old delta.now)) (self.new ≡ self.old) result }
+        ensures { IsAnswered (delta_fault self.old delta.now)
+            (λ change.
+            (change ≡ change_of self.old delta.now) × (self.new ≡ counts_after self.old delta.now))
+            (self.new ≡ self.old) result }
     {
         match (place_of(&self.entries, &delta.key), delta.up) {
             (Err(place), true) => self.add(place, &delta.key),
@@ -153,15 +158,19 @@ impl Local {
     /// The first opening of a key.
     fn add(&mut self, place: usize, key: &Key) -> Result<Option<Change>, Failure<InterestFault>>
         requires { IsGapFor key_cmp key.now self.old place }
-        ensures { IsAnswered (too_many_if (is_full self.old key.now)) (λ change. (change ≡ change_between key.now 0 1) × (self.new ≡ insert_entry key_cmp self.old key.now 1)) (self.new ≡ self.old) result }
+        ensures { IsAnswered (too_many_if (is_full self.old key.now))
+            (λ change.
+            (change ≡ change_between key.now 0 1)
+            × (self.new ≡ insert_entry key_cmp self.old key.now 1))
+            (self.new ≡ self.old) result }
     {
         let bytes = self.bytes + key.cost();
         if self.entries.len() as u64 >= MAX_KEYS || bytes > SUBSCRIPTION_BYTES {
             return Err(Failure::Refused(InterestFault::TooManyKeys));
         }
+        let copy = key.try_clone(self.alloc)?;
         let change = change(self.alloc, key, 0, 1)?;
-        let key = key.try_clone(self.alloc)?;
-        self.put_new(place, key);
+        self.put_new(place, copy);
         Ok(change)
     }
 
@@ -185,7 +194,10 @@ impl Local {
         delta: &Delta,
     ) -> Result<Option<Change>, Failure<InterestFault>>
         requires { IsPlaceOf key_cmp delta.now.key self.old place }
-        ensures { IsAnswered (delta_fault self.old delta.now) (λ change. (change ≡ change_of self.old delta.now) × (self.new ≡ counts_after self.old delta.now)) (self.new ≡ self.old) result }
+        ensures { IsAnswered (delta_fault self.old delta.now)
+            (λ change.
+            (change ≡ change_of self.old delta.now) × (self.new ≡ counts_after self.old delta.now))
+            (self.new ≡ self.old) result }
     {
         let count = self.entries[place].1;
         if delta.up && count >= MAX_WEIGHT {
@@ -205,7 +217,9 @@ impl Local {
     ) -> Result<Option<Change>, AllocError>
         requires place { IsPlaceOf key_cmp key.now self.old place }
         requires most { count ≤ MAX_WEIGHT }
-        ensures ok { IfOk result (λ change. (change ≡ change_between key.now (count_of self.old key.now) count) × (self.new ≡ with_count self.old key.now count)) }
+        ensures ok { IfOk result (λ change.
+            (change ≡ change_between key.now (count_of self.old key.now) count)
+            × (self.new ≡ with_count self.old key.now count)) }
         ensures err { OnErr result (self.new ≡ self.old) }
     {
         let before = self.entries[place].1;
@@ -232,9 +246,11 @@ impl Local {
     /// of these. Takes no memory.
     pub(crate) fn count(&mut self, delta: &Delta, opened: &mut VecDeque<Key>)
         requires taken { delta_fault self.old delta.now ≡ None }
-        requires next { opens_key self.old delta.now ≡ true → slice_get opened.old.items 0 ≡ Some delta.now.key }
+        requires next { opens_key self.old delta.now ≡ true
+            → slice_get opened.old.items 0 ≡ Some delta.now.key }
         ensures counts { self.new ≡ counts_after self.old delta.now }
-        ensures left { opened.old.items ≡ key_if (opens_key self.old delta.now) delta.now.key ++ opened.new.items }
+        ensures left { opened.old.items
+            ≡ key_if (opens_key self.old delta.now) delta.now.key ++ opened.new.items }
     {
         match place_of(&self.entries, &delta.key) {
             Ok(place) => {

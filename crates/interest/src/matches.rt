@@ -70,7 +70,9 @@ fn add_wanted<'a>(
     subject: &Subject,
     names: &mut FoundNames<'a>,
 ) -> Result<(), TooManyNames>
-    ensures { AreGathered (with_queue (subject_matches key.now.pattern subject.now) key.now.queue names.old) names.new result }
+    ensures { AreGathered
+        (with_queue (subject_matches key.now.pattern subject.now) key.now.queue names.old) names.new
+        result }
 {
     if key.queue.is_none() || !key.pattern.matches(subject) {
         return Ok(());
@@ -84,7 +86,8 @@ fn names_among<'a, T: Keyed>(
     subject: &Subject,
     names: &mut FoundNames<'a>,
 ) -> Result<(), TooManyNames>
-    ensures { AreGathered (names_of subject.now (map T.entry entries.now) names.old) names.new result }
+    ensures { AreGathered (names_of subject.now (map T.entry entries.now) names.old) names.new
+        result }
 {
     for place in 0..entries.len() {
         add_wanted(entries[place].key_of(), subject, names)?;
@@ -100,7 +103,8 @@ pub(crate) fn names_in<'a, T: Keyed>(
     names: &mut FoundNames<'a>,
 ) -> Result<(), TooManyNames>
     requires { IsStrictlySortedBy key_cmp (keys_of (map T.entry entries.now)) }
-    ensures { AreGathered (names_of subject.now (map T.entry entries.now) names.old) names.new result }
+    ensures { AreGathered (names_of subject.now (map T.entry entries.now) names.old) names.new
+        result }
 {
     if entries.len() <= FEW {
         return names_among(entries, subject, names);

@@ -32,7 +32,8 @@ fn bytes_of<'a>(name: &Option<&'a QueueName>) -> &'a [u8]
 
 /// Whether the name is one of these.
 fn has(names: &[Option<&QueueName>], name: &QueueName) -> bool
-    ensures { result ≡ list_any (λ other. bytes_eq name.now (unwrap_or (option_copied other) [])) names.now }
+    ensures { result
+        ≡ list_any (λ other. bytes_eq name.now (unwrap_or (option_copied other) [])) names.now }
 {
     let bytes = name.bytes();
     names.iter().any(|other| bytes == bytes_of(other))
@@ -40,7 +41,8 @@ fn has(names: &[Option<&QueueName>], name: &QueueName) -> bool
 
 /// The place of the first of these that stands behind the name in the order of bytes.
 fn place_behind(names: &[Option<&QueueName>], name: &QueueName) -> Option<usize>
-    ensures { result ≡ position (λ other. is_before name.now (unwrap_or (option_copied other) [])) names.now }
+    ensures { result
+        ≡ position (λ other. is_before name.now (unwrap_or (option_copied other) [])) names.now }
 {
     let bytes = name.bytes();
     names

@@ -67,7 +67,8 @@ impl Eq for OrderedKey {
 impl PartialOrd for OrderedKey {
     ghost partial_cmp = { as_partial_cmp key_cmp };
 
-    ghost laws = { partial_order_from_agreeing_total key_cmp key_order_total (λ x y. refl) (λ x y. refl) };
+    ghost laws = { partial_order_from_agreeing_total key_cmp key_order_total (λ x y. refl)
+        (λ x y. refl) };
 
     fn partial_cmp(&self, other: &OrderedKey) -> Option<Ordering> {
         Some(self.cmp(other))

@@ -72,7 +72,8 @@ fn move_below(entries: &mut VecDeque<Entry>, key: &Key, done: &mut Vec<Entry>)
     requires { vec_len done.old + length entries.old.items ≤ vec_capacity done.old }
     ensures done { done.new.items ≡ done.old.items ++ below key.now entries.old.items }
     ensures left { entries.new.items ≡ from_key key.now entries.old.items }
-    ensures len { vec_len done.new + length entries.new.items ≡ vec_len done.old + length entries.old.items }
+    ensures len { vec_len done.new + length entries.new.items
+        ≡ vec_len done.old + length entries.old.items }
     ensures capacity { vec_capacity done.new ≡ vec_capacity done.old }
 {
     while let Some(entry) = pop_below(entries, key) {
@@ -95,9 +96,11 @@ fn drop_first(entries: &mut VecDeque<Entry>, key: &Key)
 /// that is not 0, in place of the one that it had.
 fn put_number(entries: &mut VecDeque<Entry>, key: Key, number: u64, done: &mut Vec<Entry>)
     requires { vec_len done.old + length entries.old.items + 1 ≤ vec_capacity done.old }
-    ensures done { done.new.items ≡ done.old.items ++ (below key entries.old.items ++ one_if key number) }
+    ensures done { done.new.items
+        ≡ done.old.items ++ (below key entries.old.items ++ one_if key number) }
     ensures left { entries.new.items ≡ without_first key (from_key key entries.old.items) }
-    ensures room { vec_len done.new + length entries.new.items ≤ vec_len done.old + length entries.old.items + 1 }
+    ensures room { vec_len done.new + length entries.new.items
+        ≤ vec_len done.old + length entries.old.items + 1 }
     ensures capacity { vec_capacity done.new ≡ vec_capacity done.old }
 {
     move_below(entries, &key, done);

@@ -45,7 +45,10 @@ fn place_at<T: Keyed>(entries: &[T], place: usize, beginning: &Beginning<'_>) ->
     requires { place < length entries.now }
     ensures behind { place < result }
     ensures within { result ≤ length entries.now }
-    ensures passed { (d : T) → place + 1 < result → is_before (T.entry (slice_index_or entries.now (result - 1) d)).0.pattern (text_of beginning.now) ≡ true }
+    ensures passed { (d : T)
+        → place + 1 < result
+        → is_before (T.entry (slice_index_or entries.now (result - 1) d)).0.pattern
+        (text_of beginning.now) ≡ true }
 {
     let mut low = place;
     let mut high = entries.len();

@@ -96,7 +96,8 @@ fn next_token<'a>(rest: &[u8], subject: &'a [u8]) -> Option<&'a [u8]>
 fn takes_rest(wanted: &[u8], behind: Option<&[u8]>) -> bool
     ensures rest { result ≡ true → is_rest_wildcard wanted.now ≡ true }
     ensures last { result ≡ true → option_copied behind.entry ≡ None }
-    ensures other { result ≡ false → (is_rest_wildcard wanted.now && is_none (option_copied behind.entry)) ≡ false }
+    ensures other { result ≡ false
+        → (is_rest_wildcard wanted.now && is_none (option_copied behind.entry)) ≡ false }
 {
     behind.is_none() && matches!(wanted, b">")
 }
@@ -134,7 +135,8 @@ fn later<'a>(
     last: Option<&'a [u8]>,
     known: Option<Beginning<'a>>,
 ) -> Option<Beginning<'a>>
-    ensures { text_if result ≡ later_of before.now (option_copied last.entry) (text_if known.entry) }
+    ensures { text_if result
+        ≡ later_of before.now (option_copied last.entry) (text_if known.entry) }
 {
     match last {
         Some(last) => Some(Beginning { before, last }),

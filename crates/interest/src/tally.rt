@@ -1,19 +1,18 @@
 //! What deltas would do, counted in order without memory.
 
-ghost use Rattle.std.specs.Prelude.{◌≡◌, ◌+◌, ◌^◌, ◌<◌, ◌≤◌, ◌&&◌, nat_eq, ◌++◌, [], false, length, unwrap_or, option_to_list, IfOk, OnOk, if◌then◌else◌};
-ghost use Rattle.std.specs.Map.{lookup};
-ghost use Rattle.std.specs.BTreeMap.{is_at, insert_entry};
-ghost use Rattle.subj.specs.Keys.{key_cmp};
+ghost use Rattle.std.specs.Prelude.{◌≡◌, ◌+◌, ◌^◌, ◌<◌, ◌≤◌, ◌&&◌, nat_eq, ◌++◌, [], false, length, option_to_list, IfOk, OnOk, if◌then◌else◌};
+ghost use Rattle.std.specs.BTreeMap.{insert_entry};
+ghost use Rattle.subj.specs.Keys.{key_cmp, cost_of};
 ghost use Rattle.interest.specs.Tally.{changes_counted, number_behind as behind, is_refused_of, total_after, is_told_of, key_if, keys_opened};
-ghost use Rattle.interest.specs.Counts.{count_of, count_after, change_between};
-ghost use Rattle.interest.specs.Recounts.{IsPlanOf, IsRecountOf};
+ghost use Rattle.interest.specs.Counts.{count_of, count_after, change_between, IsInterest};
+ghost use Rattle.interest.specs.Recounts.{IsPlanOf, IsRecountOf, IsPlanOfNone, AreCounted, IsOneMore, number_among};
 ghost use Rattle.interest.specs.declared.recounts.Recount.TheVariants.{Many};
 ghost use Rattle.interest.specs.Told.{counts_told, changes_told as told, are_refused};
 
 use crate::changes::Change;
 use crate::local::{Local, PLACES, change, number_after};
 use crate::ordered_keys::OrderedKey;
-use crate::recounts::{Numbers, Recount, entries_after};
+use crate::recounts::{Entry, Numbers, Recount, entries_after};
 use std::alloc::{AllocError, Global};
 use std::cmp::Ordering;
 use std::collections::{BTreeMap, VecDeque};
@@ -67,7 +66,8 @@ fn total(up: bool, number: u64, total: u64, weight: u64) -> u64
 /// How many changes the other servers are told of a delta of a key that had this number: 1 or none.
 fn changes_told(delta: &Delta, number: u64) -> u64
     requires { number < 2 ^ 63 }
-    ensures { result ≡ (if is_told_of delta.now.key number (count_after delta.now.up number) then 1 else 0) }
+    ensures { result
+        ≡ (if is_told_of delta.now.key number (count_after delta.now.up number) then 1 else 0) }
 {
     let after = number_after(delta.up, number);
     if after == 0 || !(delta.key.queue.is_none() && 0 < number) {
@@ -96,9 +96,23 @@ struct FewPlan {
     changes: Vec<Change>,
 }
 
+/// What many deltas do, as far as they are counted.
+#[derive(Drop)]
+struct ManyPlan {
+    /// The number of each key that they tell of.
+    numbers: BTreeMap<OrderedKey, u64>,
+    /// What the other servers are told, in order.
+    changes: Vec<Change>,
+    /// How many keys are open then.
+    keys: u64,
+    /// What these count together.
+    bytes: u64,
+}
+
 /// The key of a delta, where it opens it and there was this number of open subscriptions, none.
 fn opened_key(alloc: Global, delta: &Delta, number: u64) -> Result<Option<Key>, AllocError>
-    ensures { IfOk result (λ key. option_to_list key ≡ key_if (delta.now.up && nat_eq number 0) delta.now.key) }
+    ensures { IfOk result (λ key.
+        option_to_list key ≡ key_if (delta.now.up && nat_eq number 0) delta.now.key) }
 {
     if !delta.up || number != 0 {
         return Ok(None);
@@ -132,7 +146,8 @@ fn put(
     key: OrderedKey,
     number: u64,
 ) -> Result<(), AllocError>
-    ensures { OnOk result (numbers.new.entries ≡ insert_entry key_cmp numbers.old.entries key number) }
+    ensures { OnOk result
+        (numbers.new.entries ≡ insert_entry key_cmp numbers.old.entries key number) }
 {
     match numbers.insert(key, number) {
         Ok(_) => Ok(()),
@@ -156,13 +171,86 @@ impl FewPlan {
     fn add(&mut self, alloc: Global, delta: &Delta, number: u64) -> Result<(), AllocError>
         requires fits { count_after delta.now.up number ≤ MAX_WEIGHT }
         requires few { number ≤ MAX_WEIGHT }
-        ensures opened { OnOk result (self.new.opened.items ≡ self.old.opened.items ++ key_if (delta.now.up && nat_eq number 0) delta.now.key) }
-        ensures changes { OnOk result (self.new.changes.items ≡ self.old.changes.items ++ option_to_list (change_between delta.now.key number (count_after delta.now.up number))) }
+        ensures opened { OnOk result (self.new.opened.items
+            ≡ self.old.opened.items ++ key_if (delta.now.up && nat_eq number 0) delta.now.key) }
+        ensures changes { OnOk result (self.new.changes.items
+            ≡ self.old.changes.items
+            ++ option_to_list
+            (change_between delta.now.key number (count_after delta.now.up number))) }
     {
-        let key = opened_key(alloc, delta, number)?;
-        let change = change(alloc, &delta.key, number, number_after(delta.up, number))?;
-        push_key(&mut self.opened, key)?;
-        push_change(&mut self.changes, change)
+        let after = number_after(delta.up, number);
+        push_key(&mut self.opened, opened_key(alloc, delta, number)?)?;
+        push_change(&mut self.changes, change(alloc, &delta.key, number, after)?)
+    }
+}
+
+impl ManyPlan {
+    /// Of no deltas, where so many keys of so many bytes are open.
+    fn new(alloc: Global, keys: u64, bytes: u64) -> ManyPlan
+        ensures numbers { result.numbers.entries ≡ [] }
+        ensures changes { result.changes.items ≡ [] }
+        ensures keys { result.keys ≡ keys }
+        ensures bytes { result.bytes ≡ bytes }
+    {
+        ManyPlan {
+            numbers: BTreeMap::new(alloc),
+            changes: Vec::new(alloc),
+            keys,
+            bytes,
+        }
+    }
+
+    /// Of one delta more, whose key had this number of open subscriptions.
+    fn add(
+        &mut self,
+        alloc: Global,
+        delta: &Delta,
+        key: OrderedKey,
+        number: u64,
+    ) -> Result<(), AllocError>
+        requires fits { count_after delta.now.up number ≤ MAX_WEIGHT }
+        requires few { number ≤ MAX_WEIGHT }
+        requires keys { self.old.keys ≤ MAX_KEYS }
+        requires bytes { self.old.bytes ≤ SUBSCRIPTION_BYTES }
+        ensures numbers { OnOk result (self.new.numbers.entries
+            ≡ insert_entry key_cmp self.old.numbers.entries key (count_after delta.now.up number)) }
+        ensures changes { OnOk result (self.new.changes.items
+            ≡ self.old.changes.items
+            ++ option_to_list
+            (change_between delta.now.key number (count_after delta.now.up number))) }
+        ensures keys { OnOk result
+            (self.new.keys ≡ total_after delta.now.up number self.old.keys 1) }
+        ensures bytes { OnOk result (self.new.bytes
+            ≡ total_after delta.now.up number self.old.bytes (cost_of delta.now.key)) }
+    {
+        let after = number_after(delta.up, number);
+        put(&mut self.numbers, key, after)?;
+        self.keys = total(delta.up, number, self.keys, 1);
+        self.bytes = total(delta.up, number, self.bytes, delta.key.cost());
+        push_change(&mut self.changes, change(alloc, &delta.key, number, after)?)
+    }
+
+    /// What the deltas do, with this room for all keys.
+    fn with_room(self, room: Vec<Entry>) -> DeltaPlan
+        ensures recount { result.recount
+            ≡ Many record { numbers = self.numbers; bytes = self.bytes; room = room } }
+        ensures changes { result.changes ≡ self.changes }
+    {
+        let ManyPlan {
+            numbers,
+            changes,
+            bytes,
+            ..
+        } = self;
+        let many = Numbers {
+            numbers,
+            bytes,
+            room,
+        };
+        DeltaPlan {
+            recount: Recount::Many(many),
+            changes,
+        }
     }
 }
 
@@ -206,7 +294,9 @@ impl Local {
     /// What these deltas do, one by one. Required: none of them is refused.
     fn plan_few(&self, deltas: &[Delta]) -> Result<FewPlan, AllocError>
         requires { are_refused self.now deltas.now ≡ false }
-        ensures { IfOk result (λ plan. (plan.opened.items ≡ keys_opened self.now deltas.now) × (plan.changes.items ≡ told self.now deltas.now)) }
+        ensures { IfOk result (λ plan.
+            (plan.opened.items ≡ keys_opened self.now deltas.now)
+            × (plan.changes.items ≡ told self.now deltas.now)) }
     {
         let mut plan = FewPlan::new(self.alloc);
         for place in 0..deltas.len() {
@@ -219,7 +309,7 @@ impl Local {
 
     /// The number of the key so far: the one that it has among these, or the one that is counted.
     fn number_so_far(&self, numbers: &BTreeMap<OrderedKey, u64>, key: &OrderedKey) -> u64
-        ensures { result ≡ unwrap_or (lookup (is_at (key_cmp key.now)) numbers.now.entries) (count_of self.now key.now) }
+        ensures { result ≡ number_among self.now numbers.now.entries key.now }
     {
         match numbers.get(key) {
             Some(number) => *number,
@@ -227,37 +317,47 @@ impl Local {
         }
     }
 
+    /// Counts one delta more in the plan, and answers whether it is taken: false where it is refused.
+    fn count_one(&self, delta: &Delta, plan: &mut ManyPlan) -> Result<bool, AllocError>
+        requires few { number_among self.now plan.old.numbers.entries delta.now.key ≤ MAX_WEIGHT }
+        requires keys { plan.old.keys ≤ MAX_KEYS }
+        requires bytes { plan.old.bytes ≤ SUBSCRIPTION_BYTES }
+        ensures { IfOk result (IsOneMore self.now delta.now plan.old plan.new) }
+    {
+        let key = OrderedKey::copy_of(self.alloc, &delta.key)?;
+        let number = self.number_so_far(&plan.numbers, &key);
+        if is_refused(plan.keys, plan.bytes, delta, number) {
+            return Ok(false);
+        }
+        plan.add(self.alloc, delta, key, number)?;
+        Ok(true)
+    }
+
+    /// Counts these deltas in a plan of none, and answers whether all are taken: false where one of them is
+    /// refused.
+    fn count_many(&self, deltas: &[Delta], plan: &mut ManyPlan) -> Result<bool, AllocError>
+        requires valid { IsInterest self.now }
+        requires none { IsPlanOfNone self.now plan.old }
+        ensures { IfOk result (AreCounted self.now deltas.now plan.new) }
+    {
+        for place in 0..deltas.len() {
+            if !self.count_one(&deltas[place], plan)? {
+                return Ok(false);
+            }
+        }
+        Ok(true)
+    }
+
     /// What these deltas do, for each of their keys; None where one of them is refused.
     fn plan_many(&self, deltas: &[Delta]) -> Result<Option<DeltaPlan>, AllocError>
         ensures { IfOk result (IsPlanOf self.now deltas.now) }
     {
-        let mut numbers = BTreeMap::new(self.alloc);
-        let mut changes = Vec::new(self.alloc);
-        let mut keys = self.entries.len() as u64;
-        let mut bytes = self.bytes;
-        for place in 0..deltas.len() {
-            let delta = &deltas[place];
-            let key = OrderedKey::copy_of(self.alloc, &delta.key)?;
-            let number = self.number_so_far(&numbers, &key);
-            if is_refused(keys, bytes, delta, number) {
-                return Ok(None);
-            }
-            keys = total(delta.up, number, keys, 1);
-            bytes = total(delta.up, number, bytes, delta.key.cost());
-            let after = number_after(delta.up, number);
-            push_change(&mut changes, change(self.alloc, &delta.key, number, after)?)?;
-            put(&mut numbers, key, after)?;
+        let mut plan = ManyPlan::new(self.alloc, self.entries.len() as u64, self.bytes);
+        if !self.count_many(deltas, &mut plan)? {
+            return Ok(None);
         }
-        let room = Vec::with_capacity(self.alloc, PLACES + numbers.len())?;
-        let many = Numbers {
-            numbers,
-            bytes,
-            room,
-        };
-        Ok(Some(DeltaPlan {
-            recount: Recount::Many(many),
-            changes,
-        }))
+        let room = Vec::with_capacity(self.alloc, PLACES + plan.numbers.len())?;
+        Ok(Some(plan.with_room(room)))
     }
 
     /// What these deltas do; None where one of them is refused, were each counted in its turn by

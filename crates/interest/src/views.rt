@@ -30,7 +30,8 @@ use subj::{Failure, Key, MAX_KEYS, MAX_WEIGHT, QueueName, Subject};
 /// The place of the key, or the one where it would stand.
 fn place_of(keys: &[WeightedKey], key: &Key) -> Result<usize, usize>
     requires { IsStrictlySortedBy key_cmp (keys_of keys.now) }
-    ensures { MatchResult result (IsPlaceOf key_cmp key.now keys.now) (IsGapFor key_cmp key.now keys.now) }
+    ensures { MatchResult result (IsPlaceOf key_cmp key.now keys.now)
+        (IsGapFor key_cmp key.now keys.now) }
 {
     keys.binary_search_by(|entry| entry.key().order(key))
 }
@@ -38,7 +39,8 @@ fn place_of(keys: &[WeightedKey], key: &Key) -> Result<usize, usize>
 /// Gives the key this weight, in place of the one that it has. Memory is wanted for a new key alone.
 fn put(keys: &mut Vec<WeightedKey>, weighted: WeightedKey) -> Result<(), AllocError>
     requires { IsStrictlySortedBy key_cmp (keys_of keys.old.items) }
-    ensures ok { OnOk result (keys.new.items ≡ insert_entry key_cmp keys.old.items weighted.0 weighted.1) }
+    ensures ok { OnOk result
+        (keys.new.items ≡ insert_entry key_cmp keys.old.items weighted.0 weighted.1) }
     ensures err { OnErr result (keys.new.items ≡ keys.old.items) }
 {
     match place_of(keys, weighted.key()) {
@@ -97,7 +99,9 @@ fn weight_among(keys: &[WeightedKey], subject: &Subject, name: &QueueName) -> u6
 
 /// Whether the key was told just as it is counted.
 fn is_as_counted(weighted: &WeightedKey, entry: &(Key, u64)) -> bool
-    ensures { result ≡ (is_eq (key_cmp weighted.now.0 entry.now.0) && nat_eq weighted.now.1 (weight_told entry.now.0 entry.now.1)) }
+    ensures { result
+        ≡ (is_eq (key_cmp weighted.now.0 entry.now.0)
+        && nat_eq weighted.now.1 (weight_told entry.now.0 entry.now.1)) }
 {
     weighted.key().order(&entry.0) == Ordering::Equal
         && weighted.weight() == told_weight(&entry.0, entry.1)
@@ -233,7 +237,9 @@ impl View {
         number: u64,
         change: Change,
     ) -> Result<(), Failure<InterestFault>>
-        ensures { IsAnswered (news_fault self.old (Changed number change)) (λ _. self.new ≡ heard_after self.old (Changed number change)) (self.new ≡ self.old) result }
+        ensures { IsAnswered (news_fault self.old (Changed number change))
+            (λ _. self.new ≡ heard_after self.old (Changed number change)) (self.new ≡ self.old)
+            result }
     {
         if let Some(fault) = self.change_fault(number, &change) {
             return Err(Failure::Refused(fault));
@@ -246,7 +252,9 @@ impl View {
     /// Takes these keys in place of all that was heard, as after the change of this number. Refused by the
     /// cause that [`View::snapshot_fault`] tells, with all as it was. Takes no memory.
     pub fn apply_snapshot(&mut self, number: u64, keys: SnapshotKeys) -> Result<(), InterestFault>
-        ensures { IsDecided (news_fault self.old (Whole number keys)) (λ _. self.new ≡ heard_after self.old (Whole number keys)) (self.new ≡ self.old) result }
+        ensures { IsDecided (news_fault self.old (Whole number keys))
+            (λ _. self.new ≡ heard_after self.old (Whole number keys)) (self.new ≡ self.old)
+            result }
     {
         if let Some(fault) = self.snapshot_fault(number, &keys) {
             return Err(fault);
@@ -267,7 +275,9 @@ impl View {
 
     /// Why a change of this number is not the next one, or None where it is.
     fn order_fault(&self, number: u64) -> Option<InterestFault>
-        ensures { result ≡ (if nat_le number self.now.mark then Some Late else (if nat_lt (self.now.mark + 1) number then Some Gap else None)) }
+        ensures { result
+            ≡ (if nat_le number self.now.mark then Some Late
+            else (if nat_lt (self.now.mark + 1) number then Some Gap else None)) }
     {
         if number <= self.mark {
             return Some(InterestFault::Late);

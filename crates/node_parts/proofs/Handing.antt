@@ -1,5 +1,5 @@
 -- Lists that are filled, read and given out one item after the other.
-use Rattle.std.proofs.Common.{◌≡◌, ℕ, zero, suc, ◌<◌, List, [], ◌∷◌, ◌++◌, length, get_or, map, replicate, set, take, drop, Some, refl, sym, ap, ◌∙◌, arith, append-nil}
+use Rattle.std.proofs.Common.{◌≡◌, ℕ, zero, suc, ◌<◌, ◌≤◌, List, [], ◌∷◌, ◌++◌, length, get_or, map, replicate, set, take, drop, Some, refl, sym, ap, ◌∙◌, arith, append-nil}
 use Rattle.std.specs.Prelude.{slice_get, slice_index}
 use Rattle.std.proofs.lemmas.Option.{none-some, same_Some}
 use Rattle.std.proofs.lemmas.List.{drop_all, take_all}
@@ -55,3 +55,11 @@ rest_next xs ys k same = sym (after xs k) ∙ ap (λ l. drop 1 l) same ∙ after
 -- a list that was written as a part of its own list
 pub written : {A : Type 0} (len : ℕ) (new old : List A) → length new ≡ length old → len ≡ length old → take len (new ++ drop (length new) old) ≡ new
 written len new old same whole = ap (λ l. take len (new ++ l)) (drop_all (length new) old (omega arith)) ∙ ap (take len) (append-nil new) ∙ take_all len new (omega arith)
+
+-- all of them are
+pub all_mapped : {A : Type 0} (f : A → A) (xs : List A) (k : ℕ) → length xs ≤ k
+    → map f (take k xs) ++ drop k xs ≡ map f xs
+all_mapped f xs k few =
+    ap (λ l. map f l ++ drop k xs) (take_all k xs few)
+    ∙ ap (λ l. map f xs ++ l) (drop_all k xs few)
+    ∙ append-nil (map f xs)

@@ -1,7 +1,8 @@
 -- What has become of a frame of a peer, by what it tells.
-use Rattle.std.proofs.Common.{◌≡◌, ℕ, true, false, true≢false, List, replicate, Some, sym, ap, ◌∙◌}
+use Rattle.std.proofs.Common.{◌≡◌, ℕ, ◌+◌, true, false, true≢false, List, replicate, Some, sym, ap, ◌∙◌, subst}
 use Rattle.std.proofs.lemmas.Option.{none-some, same_Some}
 use Rattle.subj.specs.declared.jobs.Job.{Job}
+use Rattle.claim_race.specs.Race.{RaceState, IsIssued}
 use Rattle.route_values.specs.Frames.{Frame}
 use Rattle.route_values.specs.declared.bodies.Body.{Body}
 use Rattle.route_values.specs.declared.bodies.Body.TheVariants.{Plus, Minus, Snapshot, Msg}
@@ -32,3 +33,7 @@ message_received hub frame count job jobs is alike = go frame.body is
     go (Msg content queues) e =
         let same : job ≡ routed_job hub frame content queues = same_Some job (routed_job hub frame content queues) e in
         (ap (λ (j : Job). Routed j.turn) same, alike ∙ ap (replicate count) same)
+
+-- the turn that is issued is the next one
+pub issued_next : (old new : RaceState) (turn : ℕ) → IsIssued old turn new → IsIssued old (old.issued + 1) new
+issued_next old new turn is = subst (λ n. IsIssued old n new) is.after is

@@ -1,5 +1,5 @@
 -- Entries that are kept by their marks, and those behind.
-use Rattle.std.proofs.Common.{◌≡◌, ℕ, ◌==◌, true, List, [], ◌∷◌, ◌++◌, length, map, refl, sym, ap, ◌∙◌, arith, append-nil}
+use Rattle.std.proofs.Common.{◌≡◌, ℕ, ◌==◌, ◌≤◌, true, List, [], ◌∷◌, ◌++◌, length, length-take-le, map, take, refl, sym, ap, ◌∙◌, arith, append-nil}
 use Rattle.std.proofs.lemmas.Bool.Decides.{nat_tests}
 use Rattle.std.proofs.lemmas.List.{map-append}
 use Rattle.std.proofs.lemmas.Simd.{map-map}
@@ -9,7 +9,8 @@ use Rattle.outbox.specs.declared.run_tails.TailMark.{TailMark}
 use Rattle.outbox.specs.declared.kept.Kept.{Kept}
 use Rattle.outbox.specs.declared.kept.Mark.{Mark}
 use Rattle.outbox.specs.declared.kept.Mark.TheVariants.{Answer, Message}
-use Rattle.outbox.specs.Kept.{kept_of, kept_run, mark_in_run, is_whole}
+use Rattle.outbox.specs.Kept.{copied_len, copied_of, kept_of, kept_run, mark_in_run, is_whole, written_in}
+use Rattle.outbox.specs.Views.{size_of}
 
 -- no mark stands for an entry that is kept as it came
 pub wholes_behind : (ms : List Mark) (ks : List Kept) → filter is_whole (map kept_of ms ++ ks) ≡ filter is_whole ks
@@ -32,3 +33,19 @@ marks_put ms ns [] len head_len sub tails size none put =
     ∙ ap (λ l. l ++ kept_run sub head_len tails) (sym (append-nil (map kept_of ms)))
 marks_put ms ns (k ∷ others) len head_len sub tails size none put =
     let zero = zero_of_test len none in absurd (omega (arith, zero, size))
+
+-- ---- the first one
+
+pub first_copied : (k : Kept) (ks : List Kept) → copied_len k ≡ copied_of (take 1 (k ∷ ks))
+first_copied k ks = omega arith
+
+pub first_fits : (m : Mark) (ks : List Kept) (text : List ℕ)
+    → copied_of (kept_of m ∷ ks) ≤ length text
+    → copied_len (kept_of m) ≤ length text
+first_fits m ks text fits = omega arith
+
+pub first_size : (m : Mark) (ks : List Kept) (text : List ℕ)
+    → copied_len (kept_of m) ≤ length text
+    → copied_len (kept_of m) ≡ size_of (take 1 (written_in (kept_of m ∷ ks) text))
+first_size (Answer len) ks text fits = let took = length-take-le len text fits in omega arith
+first_size (Message id sub len) ks text fits = let took = length-take-le len text fits in omega arith

@@ -323,7 +323,6 @@ impl EntryQueue {
     }
 
     /// Drops the first entry, and takes its bytes off the count.
-    #[tactic(auto, using(crate::proofs::Seen::length_seen))]
     fn drop_first(&mut self, bytes: &mut usize)
         ensures rest { self.new.entries ≡ drop 1 self.old.entries }
         ensures place { length self.old.entries + 1 ≤ self.old.places

@@ -10,15 +10,23 @@ use Rattle.line_fields.specs.Fields.{is_blank, is_word}
 use Rattle.line_fields.specs.Spelling.{IsField}
 use Rattle.route_frames.specs.declared.line_reading.Operation.{Operation}
 use Rattle.route_frames.specs.declared.line_reading.Operation.TheVariants as operation
+use Rattle.route_frames.specs.declared.line_reading.NumberedOperation.TheVariants as kind
 use Rattle.route_frames.specs.Operations.{word_of, operations, operation_among, operation_of}
 
-found_among_is_named : (among : List Operation) (field : List ℕ) (o : Operation) → operation_among among field ≡ Some o → is_word (word_of o) field ≡ true
+found_among_is_named : (among : List Operation) (field : List ℕ) (o : Operation)
+    → operation_among among field ≡ Some o
+    → is_word (word_of o) field ≡ true
 found_among_is_named [] field o is = absurd (cc)
-found_among_is_named (first ∷ others) field o is = by_test (is_word (word_of first) field) refl is (λ rest. found_among_is_named others field o rest) where
-  by_test : (b : Bool) → is_word (word_of first) field ≡ b → cond b (Some first) (operation_among others field) ≡ Some o
-      → (operation_among others field ≡ Some o → is_word (word_of o) field ≡ true) → is_word (word_of o) field ≡ true
-  by_test true named same later = let e : first ≡ o = cc in subst (λ p. is_word (word_of p) field ≡ true) e named
-  by_test false named rest later = later rest
+found_among_is_named (first ∷ others) field o is =
+    by_test (is_word (word_of first) field) refl is (λ rest. found_among_is_named others field o rest)
+  where
+    by_test : (b : Bool)
+        → is_word (word_of first) field ≡ b
+        → cond b (Some first) (operation_among others field) ≡ Some o
+        → (operation_among others field ≡ Some o → is_word (word_of o) field ≡ true)
+        → is_word (word_of o) field ≡ true
+    by_test true named same later = let e : first ≡ o = cc in subst (λ p. is_word (word_of p) field ≡ true) e named
+    by_test false named rest later = later rest
 
 -- the operation that is found is one whose word the field is
 pub found_is_named : (o : Operation) (field : List ℕ) → operation_of field ≡ Some o → is_word (word_of o) field ≡ true
@@ -31,11 +39,11 @@ among_letters (o ∷ others) letters = cond (bytes_eq letters (lower (word_of o)
 each_is_found : (o : Operation) → among_letters operations (lower (word_of o)) ≡ Some o
 each_is_found operation.Info = refl
 each_is_found operation.Connect = refl
-each_is_found operation.Plus = refl
-each_is_found operation.Minus = refl
-each_is_found operation.Snapshot = refl
-each_is_found operation.Msg = refl
-each_is_found operation.HeaderMsg = refl
+each_is_found (operation.Numbered kind.Plus) = refl
+each_is_found (operation.Numbered kind.Minus) = refl
+each_is_found (operation.Numbered kind.Snapshot) = refl
+each_is_found (operation.Numbered kind.Msg) = refl
+each_is_found (operation.Numbered kind.HeaderMsg) = refl
 
 same_letters : (o : Operation) (field : List ℕ) → is_word (word_of o) field ≡ true → lower field ≡ lower (word_of o)
 same_letters o field named = (bytes_eq-Decides (lower field) (lower (word_of o))).0 named
@@ -52,7 +60,9 @@ blank_in_any_case x false e = grind (arith, nat_tests)
 
 blanks_in_any_case : (field : List ℕ) → list_any is_blank (lower field) ≡ list_any is_blank field
 blanks_in_any_case [] = refl
-blanks_in_any_case (x ∷ xs) = ap (λ b. b || list_any is_blank (lower xs)) (blank_in_any_case x (is_blank x) refl) ∙ ap (λ b. is_blank x || b) (blanks_in_any_case xs)
+blanks_in_any_case (x ∷ xs) =
+    ap (λ b. b || list_any is_blank (lower xs)) (blank_in_any_case x (is_blank x) refl)
+    ∙ ap (λ b. is_blank x || b) (blanks_in_any_case xs)
 
 empty_in_any_case : (field : List ℕ) → is_empty (lower field) ≡ is_empty field
 empty_in_any_case [] = refl
@@ -61,11 +71,11 @@ empty_in_any_case (x ∷ xs) = refl
 letters_are_field : (o : Operation) → IsField (lower (word_of o))
 letters_are_field operation.Info = (refl, refl)
 letters_are_field operation.Connect = (refl, refl)
-letters_are_field operation.Plus = (refl, refl)
-letters_are_field operation.Minus = (refl, refl)
-letters_are_field operation.Snapshot = (refl, refl)
-letters_are_field operation.Msg = (refl, refl)
-letters_are_field operation.HeaderMsg = (refl, refl)
+letters_are_field (operation.Numbered kind.Plus) = (refl, refl)
+letters_are_field (operation.Numbered kind.Minus) = (refl, refl)
+letters_are_field (operation.Numbered kind.Snapshot) = (refl, refl)
+letters_are_field (operation.Numbered kind.Msg) = (refl, refl)
+letters_are_field (operation.Numbered kind.HeaderMsg) = (refl, refl)
 
 pub word_is_field : (o : Operation) (field : List ℕ) → is_word (word_of o) field ≡ true → IsField field
 word_is_field o field named =

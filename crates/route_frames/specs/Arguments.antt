@@ -1,5 +1,5 @@
--- The fields behind the five common ones, by their number. NATS documentation, "Cluster Protocol"; the number of queue names, snapshots and
--- `RHMSG`: profile.
+-- The fields behind the five common ones, by their number. NATS documentation, "Cluster Protocol";
+-- the number of queue names, snapshots and `RHMSG`: profile.
 use Rattle.std.specs.Prelude.{ℕ, List, [], ◌∷◌, codes, Option, Some, None, option_map, if◌then◌else◌}
 use Rattle.std.specs.Str.{bytes_eq}
 
@@ -14,9 +14,11 @@ pub record PlusFields : Type 0 where
 abbrev pub plus_fields : List (List ℕ) → Option PlusFields
 plus_fields [] = None
 plus_fields (account ∷ []) = None
-plus_fields (account ∷ pattern ∷ []) = Some (record { account = account; pattern = pattern; queue = None; weight = None })
+plus_fields (account ∷ pattern ∷ []) =
+    Some (record { account = account; pattern = pattern; queue = None; weight = None })
 plus_fields (account ∷ pattern ∷ queue ∷ []) = None
-plus_fields (account ∷ pattern ∷ queue ∷ weight ∷ []) = Some (record { account = account; pattern = pattern; queue = Some queue; weight = Some weight })
+plus_fields (account ∷ pattern ∷ queue ∷ weight ∷ []) =
+    Some (record { account = account; pattern = pattern; queue = Some queue; weight = Some weight })
 plus_fields (account ∷ pattern ∷ queue ∷ weight ∷ other ∷ others) = None
 
 -- ---- RS- <account> <pattern> [<queue>]
@@ -29,8 +31,10 @@ pub record MinusFields : Type 0 where
 abbrev pub minus_fields : List (List ℕ) → Option MinusFields
 minus_fields [] = None
 minus_fields (account ∷ []) = None
-minus_fields (account ∷ pattern ∷ []) = Some (record { account = account; pattern = pattern; queue = None })
-minus_fields (account ∷ pattern ∷ queue ∷ []) = Some (record { account = account; pattern = pattern; queue = Some queue })
+minus_fields (account ∷ pattern ∷ []) =
+    Some (record { account = account; pattern = pattern; queue = None })
+minus_fields (account ∷ pattern ∷ queue ∷ []) =
+    Some (record { account = account; pattern = pattern; queue = Some queue })
 minus_fields (account ∷ pattern ∷ queue ∷ other ∷ others) = None
 
 -- ---- RSS <#bytes>
@@ -40,7 +44,8 @@ snapshot_field [] = None
 snapshot_field (size ∷ []) = Some size
 snapshot_field (size ∷ other ∷ others) = None
 
--- ---- RMSG <account> <subject> [<reply>] <#bytes>, `| <queue>.. <#bytes>` or `+ <reply> <queue>.. <#bytes>` behind the subject
+-- ---- RMSG <account> <subject> [<reply>] <#bytes>, `| <queue>.. <#bytes>` or `+ <reply> <queue>..
+-- <#bytes>` behind the subject
 
 pub record Form : Type 0 where
   pub reply : Option (List ℕ)
@@ -69,7 +74,8 @@ split_last (field ∷ others) = Some (split_last_of field others)
 -- a reply, and one or more queue names
 abbrev pub reply_form : List ℕ → List (List ℕ) → List ℕ → Option Form
 reply_form reply [] size = None
-reply_form reply (name ∷ names) size = Some (record { reply = Some reply; names = name ∷ names; size = size })
+reply_form reply (name ∷ names) size =
+    Some (record { reply = Some reply; names = name ∷ names; size = size })
 
 -- a reply is in front of the queue names
 abbrev pub replied_fields : List (List ℕ) → List ℕ → Option Form
@@ -96,14 +102,16 @@ form_of (first ∷ others) = form_split first (split_last others)
 
 abbrev pub message_form : List ℕ → List ℕ → Option Form → Option MessageFields
 message_form account subject None = None
-message_form account subject (Some form) = Some (record { account = account; subject = subject; headers = None; form = form })
+message_form account subject (Some form) =
+    Some (record { account = account; subject = subject; headers = None; form = form })
 
 abbrev pub message_fields : List (List ℕ) → Option MessageFields
 message_fields [] = None
 message_fields (account ∷ []) = None
 message_fields (account ∷ subject ∷ others) = message_form account subject (form_of others)
 
--- ---- RHMSG: the fields of an RMSG, with two sizes in place of the one: that of the header block, and behind it that of block and payload together
+-- ---- RHMSG: the fields of an RMSG, with two sizes in place of the one: that of the header block,
+-- and behind it that of block and payload together
 
 abbrev pub with_total : List ℕ → MessageFields → MessageFields
 with_total total fields = record {

@@ -1,4 +1,5 @@
--- The canonical spelling of a frame: upper case, one space, no leading zeros, compact JSON with its keys in the order of their bytes (profile).
+-- The canonical spelling of a frame: upper case, one space, no leading zeros, compact JSON with its
+-- keys in the order of their bytes (profile).
 use Rattle.std.specs.Prelude.{ℕ, List, [], ◌∷◌, ◌++◌, length, codes, decimal, Option, Some, None}
 use Rattle.std.specs.List.{flat_map}
 use Rattle.std.specs.Option.{option_to_list}
@@ -15,6 +16,7 @@ use Rattle.route_values.specs.Frames.{Frame}
 use Rattle.route_values.specs.Snapshots.{line_end, snapshot_text}
 use Rattle.route_frames.specs.declared.line_reading.Operation.{Operation}
 use Rattle.route_frames.specs.declared.line_reading.Operation.TheVariants as operation
+use Rattle.route_frames.specs.declared.line_reading.NumberedOperation.TheVariants as kind
 use Rattle.route_frames.specs.Operations.{word_of}
 
 -- ---- INFO and CONNECT
@@ -42,20 +44,21 @@ fields_with_spaces fields = flat_map (λ field. 32 ∷ field) fields
 
 -- a publication with headers has an operation of its own
 abbrev pub message_operation : Option (List ℕ) → Operation
-message_operation None = operation.Msg
-message_operation (Some block) = operation.HeaderMsg
+message_operation None = operation.Numbered kind.Msg
+message_operation (Some block) = operation.Numbered kind.HeaderMsg
 
 abbrev pub operation_for : Body → Operation
-operation_for (Plus key) = operation.Plus
-operation_for (Minus key) = operation.Minus
-operation_for (Snapshot keys) = operation.Snapshot
+operation_for (Plus key) = operation.Numbered kind.Plus
+operation_for (Minus key) = operation.Numbered kind.Minus
+operation_for (Snapshot keys) = operation.Numbered kind.Snapshot
 operation_for (Msg message queues) = message_operation message.headers
 
 abbrev pub operation_word : Body → List ℕ
 operation_word body = word_of (operation_for body)
 
 abbrev pub common_of : Frame → List (List ℕ)
-common_of frame = frame.from ∷ decimal frame.inc ∷ frame.to ∷ decimal frame.to_inc ∷ decimal frame.number ∷ []
+common_of frame =
+    frame.from ∷ decimal frame.inc ∷ frame.to ∷ decimal frame.to_inc ∷ decimal frame.number ∷ []
 
 -- a key without a queue name is told without its weight, which is 1
 abbrev pub member_fields : Option (List ℕ) → ℕ → List (List ℕ)
@@ -75,13 +78,19 @@ size_fields None size = decimal size ∷ []
 size_fields (Some block) size = decimal (length block) ∷ decimal size ∷ []
 
 abbrev pub body_fields : Body → List (List ℕ)
-body_fields (Plus weighted) = codes "$G" ∷ weighted.0.pattern ∷ member_fields weighted.0.queue weighted.1
+body_fields (Plus weighted) =
+    codes "$G" ∷ weighted.0.pattern ∷ member_fields weighted.0.queue weighted.1
 body_fields (Minus key) = codes "$G" ∷ key.pattern ∷ option_to_list key.queue
 body_fields (Snapshot keys) = decimal (length (snapshot_text keys)) ∷ []
-body_fields (Msg message queues) = codes "$G" ∷ message.subject ∷ (form_fields message.reply queues ++ size_fields message.headers (length (body_of message)))
+body_fields (Msg message queues) =
+    codes "$G"
+    ∷ message.subject
+    ∷ (form_fields message.reply queues ++ size_fields message.headers (length (body_of message)))
 
 unfoldable pub numbered_line : Frame → List ℕ
-numbered_line frame = operation_word frame.body ++ (fields_with_spaces (common_of frame) ++ fields_with_spaces (body_fields frame.body))
+numbered_line frame =
+    operation_word frame.body
+    ++ (fields_with_spaces (common_of frame) ++ fields_with_spaces (body_fields frame.body))
 
 -- ---- all frames
 

@@ -1,7 +1,8 @@
--- Which cause a line is refused for (profile). They are looked for in this order: no operation of a route; a number of
--- fields, or marks among them, that no form has, or a text that is no JSON object; too many queue names; a field that has
--- to be a number and is no digits, or too many; a number out of its range. All else is `BadArgs`: so is a member that is
--- missing or is no whole number.
+-- Which cause a line is refused for (profile). They are looked for in this order: no operation of a
+-- route; a number of fields, or marks among them, that no form has, or a text that is no JSON
+-- object; too many queue names; a field that has to be a number and is no digits, or too many; a
+-- number out of its range. All else is `BadArgs`: so is a member that is missing or is no whole
+-- number.
 use Rattle.std.specs.Prelude.{ℕ, Bool, true, false, not, nat_lt, List, [], ◌∷◌, ◌++◌, length, drop, codes, is_some, unwrap_or, Option, Some, None, if◌then◌else◌}
 use Rattle.std.specs.List.{list_all, list_any}
 use Rattle.serde_json.specs.Data.{Num, unsigned, negative, float, Data}
@@ -17,6 +18,7 @@ use Rattle.route_frames.specs.declared.line_reading.TheConstants.{INCARNATION_DI
 use Rattle.route_frames.specs.declared.line_reading.TheConstants.{WEIGHT_DIGITS, SIZE_DIGITS}
 use Rattle.route_frames.specs.declared.line_reading.Operation.{Operation}
 use Rattle.route_frames.specs.declared.line_reading.Operation.TheVariants as operation
+use Rattle.route_frames.specs.declared.line_reading.NumberedOperation.TheVariants as kind
 use Rattle.route_frames.specs.Operations.{operation_of}
 use Rattle.route_frames.specs.CommonFields.{CommonFields, common_fields}
 use Rattle.route_frames.specs.Arguments.{PlusFields, MinusFields, MessageFields, plus_fields, minus_fields, snapshot_field, message_fields, header_fields}
@@ -46,7 +48,11 @@ numbers_cause numbers =
     else (if not (list_all is_in_range numbers) then Some BadNumber else None)
 
 abbrev pub number_field : ℕ → ℕ → ℕ → List ℕ → NumberField
-number_field digits least most field = record { value = number_of digits field; least = least; most = most }
+number_field digits least most field = record {
+  value = number_of digits field;
+  least = least;
+  most = most;
+}
 
 abbrev pub common_numbers : ℕ → CommonFields → List NumberField
 common_numbers least common =
@@ -61,13 +67,19 @@ weight_numbers (Some weight) = number_field WEIGHT_DIGITS 1 MAX_WEIGHT weight �
 -- a header block has as many bytes as it has to begin with, and no more than follow the line
 abbrev pub header_numbers : Option (List ℕ) → List ℕ → List NumberField
 header_numbers None size = []
-header_numbers (Some headers) size = record { value = number_of SIZE_DIGITS headers; least = length header_start; most = unwrap_or (number_of SIZE_DIGITS size) 0 } ∷ []
+header_numbers (Some headers) size =
+    record {
+      value = number_of SIZE_DIGITS headers;
+      least = length header_start;
+      most = unwrap_or (number_of SIZE_DIGITS size) 0;
+    } ∷ []
 
 -- ---- numbered frames, by the fields that stand where they have the right number
 
 abbrev pub plus_cause : CommonFields → Option PlusFields → Option RouteFault
 plus_cause common None = Some BadArgs
-plus_cause common (Some fields) = numbers_cause (common_numbers 1 common ++ weight_numbers fields.weight)
+plus_cause common (Some fields) =
+    numbers_cause (common_numbers 1 common ++ weight_numbers fields.weight)
 
 abbrev pub minus_cause : CommonFields → Option MinusFields → Option RouteFault
 minus_cause common None = Some BadArgs
@@ -75,15 +87,20 @@ minus_cause common (Some fields) = numbers_cause (common_numbers 1 common)
 
 abbrev pub snapshot_cause : CommonFields → Option (List ℕ) → Option RouteFault
 snapshot_cause common None = Some BadArgs
-snapshot_cause common (Some size) = numbers_cause (common_numbers 0 common ++ number_field SIZE_DIGITS 0 MAX_SNAPSHOT size ∷ [])
+snapshot_cause common (Some size) =
+    numbers_cause (common_numbers 0 common ++ number_field SIZE_DIGITS 0 MAX_SNAPSHOT size ∷ [])
 
 abbrev pub message_cause : CommonFields → Option MessageFields → Option RouteFault
 message_cause common None = Some BadArgs
 message_cause common (Some fields) =
     if nat_lt MAX_QUEUE_NAMES (length fields.form.names) then Some TooManyQueues
-    else numbers_cause (common_numbers 1 common ++ number_field SIZE_DIGITS 0 MAX_PAYLOAD fields.form.size ∷ header_numbers fields.headers fields.form.size)
+    else numbers_cause (common_numbers 1 common
+    ++ number_field SIZE_DIGITS 0 MAX_PAYLOAD fields.form.size
+    ∷ header_numbers fields.headers fields.form.size)
 
-abbrev pub common_cause : (CommonFields → List (List ℕ) → Option RouteFault) → Option (CommonFields × List (List ℕ)) → Option RouteFault
+abbrev pub common_cause : (CommonFields → List (List ℕ) → Option RouteFault)
+    → Option (CommonFields × List (List ℕ))
+    → Option RouteFault
 common_cause behind None = Some BadArgs
 common_cause behind (Some split) = behind split.0 split.1
 
@@ -110,7 +127,10 @@ abbrev pub info_members : List (List ℕ × ℕ)
 info_members = (codes "inc", MAX_INCARNATION) ∷ []
 
 abbrev pub connect_members : List (List ℕ × ℕ)
-connect_members = (codes "inc", MAX_INCARNATION) ∷ (codes "to_inc", MAX_INCARNATION) ∷ (codes "serial", MAX_COUNTER) ∷ []
+connect_members =
+    (codes "inc", MAX_INCARNATION)
+    ∷ (codes "to_inc", MAX_INCARNATION)
+    ∷ (codes "serial", MAX_COUNTER) ∷ []
 
 -- ---- lines
 
@@ -118,15 +138,24 @@ abbrev pub operation_cause : Option Operation → List ℕ → List (List ℕ) �
 operation_cause None text fields = Some UnknownOp
 operation_cause (Some operation.Info) text fields = members_cause info_members (json_of text)
 operation_cause (Some operation.Connect) text fields = members_cause connect_members (json_of text)
-operation_cause (Some operation.Plus) text fields = common_cause (λ common behind. plus_cause common (plus_fields behind)) (common_fields fields)
-operation_cause (Some operation.Minus) text fields = common_cause (λ common behind. minus_cause common (minus_fields behind)) (common_fields fields)
-operation_cause (Some operation.Snapshot) text fields = common_cause (λ common behind. snapshot_cause common (snapshot_field behind)) (common_fields fields)
-operation_cause (Some operation.Msg) text fields = common_cause (λ common behind. message_cause common (message_fields behind)) (common_fields fields)
-operation_cause (Some operation.HeaderMsg) text fields = common_cause (λ common behind. message_cause common (header_fields behind)) (common_fields fields)
+operation_cause (Some (operation.Numbered kind.Plus)) text fields =
+    common_cause (λ common behind. plus_cause common (plus_fields behind)) (common_fields fields)
+operation_cause (Some (operation.Numbered kind.Minus)) text fields =
+    common_cause (λ common behind. minus_cause common (minus_fields behind)) (common_fields fields)
+operation_cause (Some (operation.Numbered kind.Snapshot)) text fields =
+    common_cause (λ common behind. snapshot_cause common (snapshot_field behind))
+    (common_fields fields)
+operation_cause (Some (operation.Numbered kind.Msg)) text fields =
+    common_cause (λ common behind. message_cause common (message_fields behind))
+    (common_fields fields)
+operation_cause (Some (operation.Numbered kind.HeaderMsg)) text fields =
+    common_cause (λ common behind. message_cause common (header_fields behind))
+    (common_fields fields)
 
 abbrev pub fields_cause : List ℕ → List (List ℕ) → Option RouteFault
 fields_cause line [] = Some UnknownOp
-fields_cause line (field ∷ fields) = operation_cause (operation_of field) (drop (length field) line) fields
+fields_cause line (field ∷ fields) =
+    operation_cause (operation_of field) (drop (length field) line) fields
 
 -- the first of these causes that a line has, if it has one
 abbrev pub line_cause : List ℕ → Option RouteFault

@@ -34,7 +34,8 @@ abbrev pub digits_of : ℕ → List ℕ → Meaning ℕ
 digits_of most field = ok_or (number_of most field) BadArgs
 
 abbrev pub within : ℕ → ℕ → ℕ → Meaning ℕ
-within least most number = if nat_le least number && nat_le number most then Ok number else Err BadNumber
+within least most number =
+    if nat_le least number && nat_le number most then Ok number else Err BadNumber
 
 unfoldable pub numbers_of : CommonFields → Meaning Digits
 numbers_of common = do

@@ -1,4 +1,5 @@
--- What the texts of INFO and CONNECT mean (profile). A reader takes the members in any order and ignores others.
+-- What the texts of INFO and CONNECT mean (profile). A reader takes the members in any order and
+-- ignores others.
 use Rattle.std.specs.Prelude.{ℕ, List, codes, nat_le, ◌&&◌, Option, Some, None, Ok, Err, is_some, option_and_then, if◌then◌else◌}
 use Rattle.std.specs.Option.{ok_or}
 use Rattle.std.specs.Str.{is_utf8}
@@ -29,7 +30,8 @@ object_of text = do
   json ← ok_or (json_of text) BadArgs
   object_in json
 
--- ---- its numbers: first whether those that are whole are in their ranges, then whether they are there
+-- ---- its numbers: first whether those that are whole are in their ranges, then whether they are
+-- there
 
 abbrev pub whole_of : Option Num → Whole
 whole_of None = Other
@@ -43,7 +45,8 @@ whole_at key json = whole_of (option_and_then as_number (get key json))
 abbrev pub whole_in_range : ℕ → Whole → Meaning Whole
 whole_in_range most Other = Ok Other
 whole_in_range most Negative = Err BadNumber
-whole_in_range most (Number n) = if nat_le 1 n && nat_le n most then Ok (Number n) else Err BadNumber
+whole_in_range most (Number n) =
+    if nat_le 1 n && nat_le n most then Ok (Number n) else Err BadNumber
 
 abbrev pub whole_number : Whole → Meaning ℕ
 whole_number Other = Err BadArgs

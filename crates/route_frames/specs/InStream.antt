@@ -57,8 +57,12 @@ route_grammar = record {
 
 -- ---- the law
 
--- However the bytes of frames, and whatever follows them, come in parts: these frames are read, and then what follows.
+-- However the bytes of frames, and whatever follows them, come in parts: these frames are read, and
+-- then what follows.
 abbrev pub AreReadInAnyParts : Type 0
-AreReadInAnyParts = (frames : List RouteFrame) (rest : List ℕ) (parts : List (List ℕ)) → AreRouteFrames frames
+AreReadInAnyParts =
+    (frames : List RouteFrame) (rest : List ℕ) (parts : List (List ℕ))
+    → AreRouteFrames frames
     → concat parts ≡ flat_map frame_bytes frames ++ rest
-    → read_parts route_grammar (reading_of route_grammar a_line []) parts ≡ with_items (map came frames) (reading_of route_grammar a_line rest)
+    → read_parts route_grammar (reading_of route_grammar a_line []) parts
+    ≡ with_items (map came frames) (reading_of route_grammar a_line rest)

@@ -1,5 +1,6 @@
--- What the line of a numbered frame means. The order in which causes are looked for: the number of fields, too many queue
--- names, numbers that are no digits, numbers out of their ranges, all else (profile).
+-- What the line of a numbered frame means. The order in which causes are looked for: the number of
+-- fields, too many queue names, numbers that are no digits, numbers out of their ranges, all else
+-- (profile).
 use Rattle.std.specs.Prelude.{ℕ, Bool, not, List, [], ◌∷◌, length, codes, nat_lt, Option, Some, None, Ok, Err, is_some, if◌then◌else◌}
 use Rattle.std.specs.Option.{ok_or}
 use Rattle.std.specs.Str.{bytes_eq}
@@ -13,6 +14,8 @@ use Rattle.route_frames.specs.declared.faults.RouteFault.TheVariants.{BadArgs, T
 use Rattle.route_frames.specs.declared.line_reading.TheConstants.{WEIGHT_DIGITS, SIZE_DIGITS}
 use Rattle.route_frames.specs.declared.reading.LineBody.TheVariants.{Plus, Minus, Snapshot, Msg}
 use Rattle.route_frames.specs.declared.reading.NumberedLine.{NumberedLine}
+use Rattle.route_frames.specs.declared.line_reading.Digits.{Digits}
+use Rattle.route_frames.specs.declared.line_reading.Numbers.{Numbers}
 use Rattle.route_frames.specs.Meaning.{Meaning, ◌>>=◌}
 use Rattle.route_frames.specs.CommonFields.{CommonFields, digits_of, within, numbers_of, numbers_in_range, name_of}
 use Rattle.route_frames.specs.Arguments.{MessageFields, plus_fields, minus_fields, snapshot_field, message_fields, header_fields}
@@ -101,7 +104,8 @@ snapshot_line common fields = do
 -- ---- RMSG and RHMSG, by the fields that stand where they have the right number
 
 abbrev pub few_names : MessageFields → Meaning MessageFields
-few_names fields = if nat_lt MAX_QUEUE_NAMES (length fields.form.names) then Err TooManyQueues else Ok fields
+few_names fields =
+    if nat_lt MAX_QUEUE_NAMES (length fields.form.names) then Err TooManyQueues else Ok fields
 
 unfoldable pub few_fields : Option MessageFields → Meaning MessageFields
 few_fields found = do
@@ -122,22 +126,39 @@ headers_within size (Some headers) = do
   headers ← within (length header_start) size headers
   Ok (Some headers)
 
-unfoldable pub publication_line : CommonFields → Option MessageFields → Meaning NumberedLine
-publication_line common found = do
-  fields ← few_fields found
-  digits ← numbers_of common
-  size ← digits_of SIZE_DIGITS fields.form.size
-  headers ← header_digits fields.headers
-  numbers ← numbers_in_range 1 digits
-  size ← within 0 MAX_PAYLOAD size
-  headers ← headers_within size headers
+-- by the names in its fields, once its numbers are known
+abbrev pub publication_with : CommonFields → Numbers → MessageFields → Option ℕ → ℕ
+    → Meaning NumberedLine
+publication_with common numbers fields headers size = do
   account ← account_of fields.account
   from ← name_of node_name_fault common.from
   to ← name_of node_name_fault common.to
   subject ← name_of subject_fault fields.subject
   reply ← optional (name_of subject_fault) fields.form.reply
   queues ← queue_names_in fields.form.names
-  Ok (record { from = from; to = to; numbers = numbers; body = Msg subject reply queues headers size })
+  Ok (record {
+    from = from;
+    to = to;
+    numbers = numbers;
+    body = Msg subject reply queues headers size;
+  })
+
+-- by the numbers that were spelt
+abbrev pub publication_by : CommonFields → Digits → MessageFields → Option ℕ → ℕ
+    → Meaning NumberedLine
+publication_by common digits fields headers size = do
+  numbers ← numbers_in_range 1 digits
+  size ← within 0 MAX_PAYLOAD size
+  headers ← headers_within size headers
+  publication_with common numbers fields headers size
+
+unfoldable pub publication_line : CommonFields → Option MessageFields → Meaning NumberedLine
+publication_line common found = do
+  fields ← few_fields found
+  digits ← numbers_of common
+  size ← digits_of SIZE_DIGITS fields.form.size
+  headers ← header_digits fields.headers
+  publication_by common digits fields headers size
 
 abbrev pub message_line : CommonFields → List (List ℕ) → Meaning NumberedLine
 message_line common fields = publication_line common (message_fields fields)

@@ -1,4 +1,5 @@
--- What the text of a snapshot means (profile): lines, each ended by CR LF; in a line a pattern, or a pattern, a queue name and a weight, with one space between them.
+-- What the text of a snapshot means (profile): lines, each ended by CR LF; in a line a pattern, or
+-- a pattern, a queue name and a weight, with one space between them.
 use Rattle.std.specs.Prelude.{ℕ, ◌-◌, List, [], ◌∷◌, length, take, drop, nat_eq, Option, Some, None, Ok, Err, if◌then◌else◌}
 use Rattle.std.specs.Option.{ok_or}
 use Rattle.std.specs.List.{slice_split}
@@ -37,7 +38,9 @@ weighted_of (pattern ∷ queue ∷ weight ∷ other ∷ others) = Err BadArgs
 
 -- a line with the CR that ends it, and without
 abbrev pub before_cr : List ℕ → Option (List ℕ)
-before_cr text = if bytes_eq (drop (length text - 1) text) (13 ∷ []) then Some (take (length text - 1) text) else None
+before_cr text =
+    if bytes_eq (drop (length text - 1) text) (13 ∷ []) then Some (take (length text - 1) text)
+    else None
 
 unfoldable pub key_line_of : List ℕ → Meaning Weighted
 key_line_of text = do

@@ -1,7 +1,7 @@
--- Route spelling: which lines and payloads spell which frame, by cases on what the frame says. The lines are those that a
--- cutter gives, which hold no CR LF.
--- NATS documentation, "Cluster Protocol": INFO, CONNECT, RS+, RS- and RMSG, the account, the marks in front of queue names.
--- RSS, RHMSG, the common fields, the digits and the ranges are this project's profile.
+-- Route spelling: which lines and payloads spell which frame, by cases on what the frame says. The
+-- lines are those that a cutter gives, which hold no CR LF. NATS documentation, "Cluster Protocol":
+-- INFO, CONNECT, RS+, RS- and RMSG, the account, the marks in front of queue names. RSS, RHMSG, the
+-- common fields, the digits and the ranges are this project's profile.
 use Rattle.std.specs.Prelude.{◌≡◌, ◌≤◌, ℕ, true, false, List, [], ◌∷◌, ◌++◌, length, codes, Option, Some, None, option_map}
 use Rattle.std.specs.Option.{option_to_list}
 use Rattle.serde_json.specs.Data.{Data, string}
@@ -43,37 +43,53 @@ pub record HasCommon (frame : Frame) (all behind : List (List ℕ)) : Type 0 whe
 -- RS+: a queue name comes with its weight, and a plain key, which weighs 1, without
 abbrev pub SpellsWeight : Option (List ℕ) → ℕ → List (List ℕ) → Type 0
 SpellsWeight None weight behind = behind ≡ []
-SpellsWeight (Some queue) weight behind = (digits : List ℕ) × (behind ≡ queue ∷ digits ∷ []) × IsNumber WEIGHT_DIGITS digits weight
+SpellsWeight (Some queue) weight behind =
+    (digits : List ℕ) × (behind ≡ queue ∷ digits ∷ []) × IsNumber WEIGHT_DIGITS digits weight
 
 abbrev pub SpellsPlus : Weighted → List (List ℕ) → Type 0
-SpellsPlus weighted all = (behind : List (List ℕ)) × (all ≡ codes "$G" ∷ weighted.0.pattern ∷ behind) × SpellsWeight weighted.0.queue weighted.1 behind
+SpellsPlus weighted all =
+    (behind : List (List ℕ))
+    × (all ≡ codes "$G" ∷ weighted.0.pattern ∷ behind)
+    × SpellsWeight weighted.0.queue weighted.1 behind
 
 -- these fields, and then a size
 abbrev pub SpellsSize : List (List ℕ) → ℕ → List (List ℕ) → Type 0
-SpellsSize front size behind = (digits : List ℕ) × (behind ≡ front ++ digits ∷ []) × IsNumber SIZE_DIGITS digits size
+SpellsSize front size behind =
+    (digits : List ℕ) × (behind ≡ front ++ digits ∷ []) × IsNumber SIZE_DIGITS digits size
 
 -- the same, and in front of it the size of the header block, where there is one
 abbrev pub SpellsSizes : List (List ℕ) → Option ℕ → ℕ → List (List ℕ) → Type 0
 SpellsSizes front None size behind = SpellsSize front size behind
-SpellsSizes front (Some headers) size behind = (block_digits digits : List ℕ) × (behind ≡ front ++ block_digits ∷ digits ∷ []) × IsNumber SIZE_DIGITS block_digits headers × IsNumber SIZE_DIGITS digits size
+SpellsSizes front (Some headers) size behind =
+    (block_digits digits : List ℕ)
+    × (behind ≡ front ++ block_digits ∷ digits ∷ [])
+    × IsNumber SIZE_DIGITS block_digits headers
+    × IsNumber SIZE_DIGITS digits size
 
 abbrev pub header_size : Content → Option ℕ
 header_size message = option_map (λ block. length block) message.headers
 
 -- RMSG, and RHMSG for a publication with headers
 abbrev pub SpellsMessage : Content → List (List ℕ) → List (List ℕ) → Type 0
-SpellsMessage message queues behind = SpellsSizes (codes "$G" ∷ message.subject ∷ form_fields message.reply queues) (header_size message) (length (body_of message)) behind
+SpellsMessage message queues behind =
+    SpellsSizes (codes "$G" ∷ message.subject ∷ form_fields message.reply queues)
+    (header_size message) (length (body_of message)) behind
 
--- What the fields behind the common ones say, and the size that they announce. The line of a snapshot says nothing of its
--- keys; zeros in front of weights may make its payload longer than it has to be.
+-- What the fields behind the common ones say, and the size that they announce. The line of a
+-- snapshot says nothing of its keys; zeros in front of weights may make its payload longer than it
+-- has to be.
 abbrev pub SpellsBody : Body → Option ℕ → List (List ℕ) → Type 0
 SpellsBody (Plus weighted) size behind = (size ≡ None) × SpellsPlus weighted behind
-SpellsBody (Minus key) size behind = (size ≡ None) × (behind ≡ codes "$G" ∷ key.pattern ∷ option_to_list key.queue)
-SpellsBody (Snapshot keys) size behind = (bytes : ℕ) × (size ≡ Some bytes) × (bytes ≤ MAX_SNAPSHOT) × SpellsSize [] bytes behind
-SpellsBody (Msg message queues) size behind = (size ≡ Some (length (body_of message))) × SpellsMessage message queues behind
+SpellsBody (Minus key) size behind =
+    (size ≡ None) × (behind ≡ codes "$G" ∷ key.pattern ∷ option_to_list key.queue)
+SpellsBody (Snapshot keys) size behind =
+    (bytes : ℕ) × (size ≡ Some bytes) × (bytes ≤ MAX_SNAPSHOT) × SpellsSize [] bytes behind
+SpellsBody (Msg message queues) size behind =
+    (size ≡ Some (length (body_of message))) × SpellsMessage message queues behind
 
 abbrev pub SpellsNumbered : Frame → Option ℕ → List (List ℕ) → Type 0
-SpellsNumbered frame size all = (behind : List (List ℕ)) × HasCommon frame all behind × SpellsBody frame.body size behind
+SpellsNumbered frame size all =
+    (behind : List (List ℕ)) × HasCommon frame all behind × SpellsBody frame.body size behind
 
 -- ---- the JSON of INFO and CONNECT: members in any order, beside others
 
@@ -96,8 +112,10 @@ frame_word (route.Connect connect) = word_of operation.Connect
 frame_word (route.Numbered frame) = operation_word frame.body
 
 abbrev pub SpellsText : RouteFrame → Option ℕ → List ℕ → Type 0
-SpellsText (route.Info info) size text = (size ≡ None) × (json : Data) × (json_of text ≡ Some json) × HasInfo info json
-SpellsText (route.Connect connect) size text = (size ≡ None) × (json : Data) × (json_of text ≡ Some json) × HasConnect connect json
+SpellsText (route.Info info) size text =
+    (size ≡ None) × (json : Data) × (json_of text ≡ Some json) × HasInfo info json
+SpellsText (route.Connect connect) size text =
+    (size ≡ None) × (json : Data) × (json_of text ≡ Some json) × HasConnect connect json
 SpellsText (route.Numbered frame) size text = SpellsNumbered frame size (fields text)
 
 -- the line is one of the frame, and announces a payload of this size, or none
@@ -115,12 +133,19 @@ pub record SpellsLine (frame : RouteFrame) (size : Option ℕ) (line : List ℕ)
 -- a key in a line of a snapshot, with one space between its fields
 abbrev pub SpellsKey : List ℕ → Option (List ℕ) → ℕ → List ℕ → Type 0
 SpellsKey pattern None weight line = line ≡ pattern
-SpellsKey pattern (Some queue) weight line = (digits : List ℕ) × (line ≡ pattern ++ (codes " " ++ (queue ++ (codes " " ++ digits)))) × IsNumber WEIGHT_DIGITS digits weight
+SpellsKey pattern (Some queue) weight line =
+    (digits : List ℕ)
+    × (line ≡ pattern ++ (codes " " ++ (queue ++ (codes " " ++ digits))))
+    × IsNumber WEIGHT_DIGITS digits weight
 
 -- each key in a line of its own, in order
 abbrev pub SpellsKeys : List Weighted → List ℕ → Type 0
 SpellsKeys [] text = text ≡ []
-SpellsKeys (weighted ∷ others) text = (line rest : List ℕ) × (text ≡ line ++ (line_end ++ rest)) × SpellsKey weighted.0.pattern weighted.0.queue weighted.1 line × SpellsKeys others rest
+SpellsKeys (weighted ∷ others) text =
+    (line rest : List ℕ)
+    × (text ≡ line ++ (line_end ++ rest))
+    × SpellsKey weighted.0.pattern weighted.0.queue weighted.1 line
+    × SpellsKeys others rest
 
 -- what stands behind the line
 abbrev pub SpellsBehind : Body → List ℕ → Type 0

@@ -23,6 +23,8 @@ use Rattle.route_frames.specs.declared.reading.NumberedText.{NumberedText}
 use Rattle.route_frames.specs.declared.reading.LineText.{LineText}
 use Rattle.route_frames.specs.declared.reading.LineText.TheVariants.{Info, Connect, Numbered}
 use Rattle.route_frames.specs.declared.line_reading.Common.{Common}
+use Rattle.route_frames.specs.declared.line_reading.Digits.{Digits}
+use Rattle.route_frames.specs.declared.line_reading.Numbers.{Numbers}
 use Rattle.route_frames.specs.CommonFields.{CommonFields}
 use Rattle.line_fields.specs.Fields.{fields}
 use Rattle.route_frames.specs.declared.line_reading.Form.{Form}
@@ -33,16 +35,31 @@ use Rattle.route_frames.specs.Arguments as arguments
 -- ---- fields
 
 abbrev pub common_view : Common → CommonFields
-common_view common = record { from = common.from.now; inc = common.inc.now; to = common.to.now; to_inc = common.to_inc.now; number = common.number.now }
+common_view common = record {
+  from = common.from.now;
+  inc = common.inc.now;
+  to = common.to.now;
+  to_inc = common.to_inc.now;
+  number = common.number.now;
+}
 
 abbrev pub names_view : Names → List (List ℕ)
 names_view names = take names.count (fields names.text.now)
 
 abbrev pub form_view : Form → arguments.Form
-form_view form = record { reply = option_copied form.reply; names = names_view form.names; size = form.size.now }
+form_view form = record {
+  reply = option_copied form.reply;
+  names = names_view form.names;
+  size = form.size.now;
+}
 
 abbrev pub message_view : MessageFields → arguments.MessageFields
-message_view message = record { account = message.account.now; subject = message.subject.now; headers = option_copied message.headers; form = form_view message.form }
+message_view message = record {
+  account = message.account.now;
+  subject = message.subject.now;
+  headers = option_copied message.headers;
+  form = form_view message.form;
+}
 
 -- ---- what they say
 
@@ -56,13 +73,17 @@ abbrev pub body_view : BodyText → LineBody
 body_view (Plus weighted) = body.Plus (weighted_view weighted)
 body_view (Minus key) = body.Minus (key_view key)
 body_view (Snapshot size) = body.Snapshot size
-body_view (Msg subject reply names headers size) = body.Msg subject.now (option_copied reply) (names_view names) headers size
+body_view (Msg subject reply names headers size) =
+    body.Msg subject.now (option_copied reply) (names_view names) headers size
+
+abbrev pub numbers_view : Digits → Numbers
+numbers_view digits = record { inc = digits.inc; to_inc = digits.to_inc; number = digits.number }
 
 abbrev pub numbered_view : NumberedText → NumberedLine
 numbered_view numbered = record {
   from = numbered.from.now;
   to = numbered.to.now;
-  numbers = record { inc = numbered.numbers.inc; to_inc = numbered.numbers.to_inc; number = numbered.numbers.number };
+  numbers = numbers_view numbered.numbers;
   body = body_view numbered.body;
 }
 
@@ -83,7 +104,8 @@ size_in text = text_meaning text >>= λ read. Ok (announced_size read)
 
 -- a line is judged without memory, but for its JSON
 abbrev pub Judges : List ℕ → Result LineText RouteFault → Type 0
-Judges bytes (Ok text) = (line_meaning bytes ≡ text_meaning text) × (is_json_line bytes ≡ is_json text)
+Judges bytes (Ok text) =
+    (line_meaning bytes ≡ text_meaning text) × (is_json_line bytes ≡ is_json text)
 Judges bytes (Err fault) = line_meaning bytes ≡ Err fault
 
 abbrev pub joined_text : LineText → List ℕ → Meaning RouteFrame

@@ -99,7 +99,8 @@ fn put_names(line: &mut Vec<u8>, names: &[QueueName]) -> Result<(), AllocError>
 
 /// Appends the fields that all numbered frames have.
 fn put_common(line: &mut Vec<u8>, frame: &Numbered) -> Result<(), AllocError>
-    ensures { OnOk result (line.new.items ≡ line.old.items ++ fields_with_spaces (common_of frame.now)) }
+    ensures { OnOk result
+        (line.new.items ≡ line.old.items ++ fields_with_spaces (common_of frame.now)) }
 {
     put_field(line, frame.from().bytes())?;
     put_number(line, frame.inc().get())?;
@@ -110,7 +111,8 @@ fn put_common(line: &mut Vec<u8>, frame: &Numbered) -> Result<(), AllocError>
 }
 
 fn put_plus(line: &mut Vec<u8>, weighted: &WeightedKey) -> Result<(), AllocError>
-    ensures { OnOk result (line.new.items ≡ line.old.items ++ fields_with_spaces (body_fields (Plus weighted.now))) }
+    ensures { OnOk result
+        (line.new.items ≡ line.old.items ++ fields_with_spaces (body_fields (Plus weighted.now))) }
 {
     put_field(line, ACCOUNT)?;
     put_field(line, weighted.key().pattern.bytes())?;
@@ -122,7 +124,8 @@ fn put_plus(line: &mut Vec<u8>, weighted: &WeightedKey) -> Result<(), AllocError
 }
 
 fn put_minus(line: &mut Vec<u8>, key: &Key) -> Result<(), AllocError>
-    ensures { OnOk result (line.new.items ≡ line.old.items ++ fields_with_spaces (body_fields (Minus key.now))) }
+    ensures { OnOk result
+        (line.new.items ≡ line.old.items ++ fields_with_spaces (body_fields (Minus key.now))) }
 {
     put_field(line, ACCOUNT)?;
     put_field(line, key.pattern.bytes())?;
@@ -138,7 +141,9 @@ fn put_form(
     reply: Option<&Subject>,
     names: &[QueueName],
 ) -> Result<(), AllocError>
-    ensures { OnOk result (line.new.items ≡ line.old.items ++ fields_with_spaces (form_fields (option_copied reply.entry) names.now)) }
+    ensures { OnOk result (line.new.items
+        ≡ line.old.items
+        ++ fields_with_spaces (form_fields (option_copied reply.entry) names.now)) }
 {
     if names.is_empty() {
         if let Some(reply) = reply {
@@ -158,7 +163,9 @@ fn put_form(
 
 /// Appends the size of the header block, where there is one, and that of all that follows the line.
 fn put_sizes(line: &mut Vec<u8>, message: &Message) -> Result<(), AllocError>
-    ensures { OnOk result (line.new.items ≡ line.old.items ++ fields_with_spaces (size_fields message.now.headers (length (body_of message.now)))) }
+    ensures { OnOk result (line.new.items
+        ≡ line.old.items
+        ++ fields_with_spaces (size_fields message.now.headers (length (body_of message.now)))) }
 {
     if let Some(block) = message.headers() {
         put_number(line, block.len() as u64)?;
@@ -167,7 +174,8 @@ fn put_sizes(line: &mut Vec<u8>, message: &Message) -> Result<(), AllocError>
 }
 
 fn put_message(line: &mut Vec<u8>, message: &Message, queues: &QueueNames) -> Result<(), AllocError>
-    ensures { OnOk result (line.new.items ≡ line.old.items ++ fields_with_spaces (body_fields (Msg message.now queues.now))) }
+    ensures { OnOk result (line.new.items
+        ≡ line.old.items ++ fields_with_spaces (body_fields (Msg message.now queues.now))) }
 {
     put_field(line, ACCOUNT)?;
     put_field(line, message.subject().bytes())?;
@@ -177,7 +185,8 @@ fn put_message(line: &mut Vec<u8>, message: &Message, queues: &QueueNames) -> Re
 
 /// Appends a line and its CR LF.
 fn append_line(line: &[u8], out: &mut Vec<u8>) -> Result<(), AllocError>
-    ensures { out.new.items ≡ (if is_ok result then out.old.items ++ (line.now ++ line_end) else out.old.items) }
+    ensures { out.new.items
+        ≡ (if is_ok result then out.old.items ++ (line.now ++ line_end) else out.old.items) }
 {
     out.reserve(line.len() + CR_LF.len())?;
     append_reserved(out, line);
@@ -188,7 +197,10 @@ fn append_line(line: &[u8], out: &mut Vec<u8>) -> Result<(), AllocError>
 /// Appends a line and a payload, each with its CR LF.
 fn append_frame(line: &[u8], payload: &[u8], out: &mut Vec<u8>) -> Result<(), AllocError>
     requires { length payload.now ≤ MAX_SNAPSHOT }
-    ensures { out.new.items ≡ (if is_ok result then out.old.items ++ (line.now ++ (line_end ++ (payload.now ++ line_end))) else out.old.items) }
+    ensures { out.new.items
+        ≡ (if is_ok result
+        then out.old.items ++ (line.now ++ (line_end ++ (payload.now ++ line_end)))
+        else out.old.items) }
 {
     out.reserve(line.len() + CR_LF.len() + payload.len() + CR_LF.len())?;
     append_reserved(out, line);
@@ -200,7 +212,10 @@ fn append_frame(line: &[u8], payload: &[u8], out: &mut Vec<u8>) -> Result<(), Al
 
 /// Appends a line and the text of a snapshot, each with its CR LF.
 fn append_snapshot(line: &[u8], keys: &SnapshotKeys, out: &mut Vec<u8>) -> Result<(), AllocError>
-    ensures { out.new.items ≡ (if is_ok result then out.old.items ++ (line.now ++ (line_end ++ (snapshot_text keys.now ++ line_end))) else out.old.items) }
+    ensures { out.new.items
+        ≡ (if is_ok result
+        then out.old.items ++ (line.now ++ (line_end ++ (snapshot_text keys.now ++ line_end)))
+        else out.old.items) }
 {
     out.reserve(line.len() + CR_LF.len() + keys.text_len() + CR_LF.len())?;
     append_reserved(out, line);
@@ -235,7 +250,8 @@ fn operation(body: &Body) -> &'static [u8]
 
 /// The line of a numbered frame as far as all of them are alike.
 fn begun_line(alloc: Global, frame: &Numbered) -> Result<Vec<u8>, AllocError>
-    ensures { IfOk result (λ line. line.items ≡ operation_word frame.now.body ++ fields_with_spaces (common_of frame.now)) }
+    ensures { IfOk result (λ line.
+        line.items ≡ operation_word frame.now.body ++ fields_with_spaces (common_of frame.now)) }
 {
     let mut line = Vec::with_capacity(alloc, LINE_ROOM)?;
     line.extend_from_slice(operation(frame.body()))?;
@@ -246,7 +262,8 @@ fn begun_line(alloc: Global, frame: &Numbered) -> Result<Vec<u8>, AllocError>
 #[tactic(auto, unfolding(crate::specs::Canonical::numbered_line))]
 fn encode_numbered(frame: &Numbered, out: &mut Vec<u8>) -> Result<(), AllocError>
     ensures { out.new.items
-        ≡ (if is_ok result then out.old.items ++ frame_bytes (route.Numbered frame.now) else out.old.items) }
+        ≡ (if is_ok result then out.old.items ++ frame_bytes (route.Numbered frame.now)
+        else out.old.items) }
 {
     let alloc = *out.allocator();
     let mut line = begun_line(alloc, frame)?;

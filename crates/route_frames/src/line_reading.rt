@@ -7,14 +7,14 @@ ghost use Rattle.std.specs.Option.{ok_or, option_copied};
 ghost use Rattle.line_fields.specs.Fields.{fields};
 ghost use Rattle.subj.specs.Names.{node_name_fault, pattern_fault, subject_fault, queue_name_fault};
 ghost use Rattle.route_frames.specs.CommonFields.{CommonFields, common_fields, digits_of, within as in_range, name_of, numbers_of, numbers_in_range};
-ghost use Rattle.route_frames.specs.TextViews.{names_view, common_view, message_view, key_view, weighted_view, numbered_view};
+ghost use Rattle.route_frames.specs.TextViews.{names_view, common_view, numbers_view, message_view, key_view, weighted_view, numbered_view};
 ghost use Rattle.route_frames.specs.Arguments.{plus_fields, minus_fields, snapshot_field, form_of, form_by_mark as marked_form, message_fields as fields_of_message, header_fields as fields_with_headers, split_last as last_split_off};
 ghost use Rattle.std.specs.List.{list_all};
 ghost use Rattle.subj.specs.QueueNames.{is_before_first as before_first, are_rising as rising};
 ghost use Rattle.route_values.specs.Snapshots.{weighted_key};
 ghost use Rattle.route_frames.specs.declared.faults.RouteFault.TheVariants.{BadArgs};
 ghost use Rattle.route_frames.specs.Meaning.{Says, Checks};
-ghost use Rattle.route_frames.specs.NumberedLines.{account_of, optional as optionally, key_of, queue_names_in, is_queue_name, weight_digits, plus_line, minus_line, snapshot_line, few_fields, header_digits, headers_within, publication_line};
+ghost use Rattle.route_frames.specs.NumberedLines.{account_of, optional as optionally, key_of, queue_names_in, is_queue_name, weight_digits, plus_line, minus_line, snapshot_line, few_fields, header_digits, headers_within, publication_with, publication_by, publication_line};
 
 use crate::faults::RouteFault;
 use crate::reading::{BodyText, KeyText, NumberedText, WeightedText};
@@ -29,6 +29,13 @@ use subj::{
 pub(crate) enum Operation {
     Info,
     Connect,
+    /// That of a numbered frame.
+    Numbered(NumberedOperation),
+}
+
+/// The operation of a numbered frame.
+#[derive(Clone, Copy)]
+pub(crate) enum NumberedOperation {
     Plus,
     Minus,
     Snapshot,
@@ -42,19 +49,19 @@ impl Operation {
         ensures { result ≡ operation_of field.now }
     {
         if is_word(b"RMSG", field) {
-            return Some(Operation::Msg);
+            return Some(Operation::Numbered(NumberedOperation::Msg));
         }
         if is_word(b"RHMSG", field) {
-            return Some(Operation::HeaderMsg);
+            return Some(Operation::Numbered(NumberedOperation::HeaderMsg));
         }
         if is_word(b"RS+", field) {
-            return Some(Operation::Plus);
+            return Some(Operation::Numbered(NumberedOperation::Plus));
         }
         if is_word(b"RS-", field) {
-            return Some(Operation::Minus);
+            return Some(Operation::Numbered(NumberedOperation::Minus));
         }
         if is_word(b"RSS", field) {
-            return Some(Operation::Snapshot);
+            return Some(Operation::Numbered(NumberedOperation::Snapshot));
         }
         if is_word(b"INFO", field) {
             return Some(Operation::Info);
@@ -126,7 +133,8 @@ impl Digits {
     #[tactic(auto, unfolding(crate::specs::CommonFields::numbers_in_range))]
     pub(crate) fn in_range(self, least: u64) -> Result<Numbers, RouteFault>
         ensures means { result ≡ numbers_in_range least self }
-        ensures same { IfOk result (λ numbers. numbers ≡ record { inc = self.inc; to_inc = self.to_inc; number = self.number }) }
+        ensures same { IfOk result (λ numbers.
+            numbers ≡ record { inc = self.inc; to_inc = self.to_inc; number = self.number }) }
     {
         let inc = Incarnation::new(self.inc).ok_or(RouteFault::BadNumber)?;
         let to_inc = Incarnation::new(self.to_inc).ok_or(RouteFault::BadNumber)?;
@@ -156,7 +164,9 @@ impl<'a> Common<'a> {
     /// The fields of which these two come first, and what stands behind them, where there are so many.
     fn read_others(from: &'a [u8], inc: &'a [u8], text: &'a [u8]) -> Option<(Common<'a>, &'a [u8])>
         ensures { MatchOption result (common_fields (from.now ∷ inc.now ∷ fields text.now) ≡ None)
-            (λ read. common_fields (from.now ∷ inc.now ∷ fields text.now) ≡ Some (common_view read.0, fields read.1.now)) }
+            (λ read.
+            common_fields (from.now ∷ inc.now ∷ fields text.now)
+            ≡ Some (common_view read.0, fields read.1.now)) }
     {
         let (to, behind) = split_field(text)?;
         let (to_inc, behind) = split_field(behind)?;
@@ -173,8 +183,8 @@ impl<'a> Common<'a> {
 
     /// The first five fields of a text, and what stands behind them, where there are so many.
     pub(crate) fn read(text: &'a [u8]) -> Option<(Common<'a>, &'a [u8])>
-        ensures { MatchOption result (common_fields (fields text.now) ≡ None)
-            (λ read. common_fields (fields text.now) ≡ Some (common_view read.0, fields read.1.now)) }
+        ensures { MatchOption result (common_fields (fields text.now) ≡ None) (λ read.
+            common_fields (fields text.now) ≡ Some (common_view read.0, fields read.1.now)) }
     {
         let (from, behind) = split_field(text)?;
         let (inc, behind) = split_field(behind)?;
@@ -226,7 +236,8 @@ impl<'a> Names<'a> {
 
     /// The first of them, and the others.
     pub(crate) fn split_first(self) -> Option<(&'a [u8], Names<'a>)>
-        ensures { MatchOption result (names_view self.entry ≡ []) (λ split. names_view self.entry ≡ split.0.now ∷ names_view split.1) }
+        ensures { MatchOption result (names_view self.entry ≡ [])
+            (λ split. names_view self.entry ≡ split.0.now ∷ names_view split.1) }
     {
         if self.count == 0 {
             return None;
@@ -272,8 +283,14 @@ pub(crate) struct PlusFields<'a> {
 impl<'a> PlusFields<'a> {
     /// The fields of a text, where these are two or four.
     pub(crate) fn read(text: &'a [u8]) -> Option<PlusFields<'a>>
-        ensures { MatchOption result (plus_fields (fields text.now) ≡ None)
-            (λ f. plus_fields (fields text.now) ≡ Some (record { account = f.account.now; pattern = f.pattern.now; queue = option_copied f.queue; weight = option_copied f.weight })) }
+        ensures { MatchOption result (plus_fields (fields text.now) ≡ None) (λ f.
+            plus_fields (fields text.now)
+            ≡ Some (record {
+              account = f.account.now;
+              pattern = f.pattern.now;
+              queue = option_copied f.queue;
+              weight = option_copied f.weight;
+            })) }
     {
         let (account, behind) = split_field(text)?;
         let (pattern, behind) = split_field(behind)?;
@@ -309,8 +326,13 @@ pub(crate) struct MinusFields<'a> {
 impl<'a> MinusFields<'a> {
     /// The fields of a text, where these are two or three.
     pub(crate) fn read(text: &'a [u8]) -> Option<MinusFields<'a>>
-        ensures { MatchOption result (minus_fields (fields text.now) ≡ None)
-            (λ f. minus_fields (fields text.now) ≡ Some (record { account = f.account.now; pattern = f.pattern.now; queue = option_copied f.queue })) }
+        ensures { MatchOption result (minus_fields (fields text.now) ≡ None) (λ f.
+            minus_fields (fields text.now)
+            ≡ Some (record {
+              account = f.account.now;
+              pattern = f.pattern.now;
+              queue = option_copied f.queue;
+            })) }
     {
         let (account, behind) = split_field(text)?;
         let (pattern, behind) = split_field(behind)?;
@@ -346,8 +368,8 @@ pub(crate) fn size_alone(text: &[u8]) -> Option<&[u8]>
 /// All fields but the last, and the last.
 #[tactic(auto, using(crate::proofs::Meaning::Forms::last_at, crate::proofs::Meaning::Forms::drop_more, crate::proofs::Meaning::Forms::count_at, crate::proofs::Meaning::Forms::few_names, crate::proofs::Meaning::Forms::first_of_first))]
 fn split_last(fields: Names<'_>) -> Option<(Names<'_>, &[u8])>
-    ensures { MatchOption result (last_split_off (names_view fields.entry) ≡ None)
-        (λ split. last_split_off (names_view fields.entry) ≡ Some (names_view split.0, split.1.now)) }
+    ensures { MatchOption result (last_split_off (names_view fields.entry) ≡ None) (λ split.
+        last_split_off (names_view fields.entry) ≡ Some (names_view split.0, split.1.now)) }
 {
     let (mut last, mut rest) = fields.split_first()?;
     let mut count = 0;
@@ -373,7 +395,8 @@ impl<'a> Form<'a> {
 
     /// The form of a message by its first field, those between, and its last.
     fn of_mark(mark: &[u8], between: Names<'a>, size: &'a [u8]) -> Option<Form<'a>>
-        ensures { option_map form_view result ≡ marked_form mark.now (names_view between.entry) size.now }
+        ensures { option_map form_view result
+            ≡ marked_form mark.now (names_view between.entry) size.now }
     {
         if mark == NAMES_MARK {
             return Some(Form {
@@ -499,7 +522,8 @@ fn name(field: &[u8], fault: Option<NameFault>) -> Result<&[u8], RouteFault>
 }
 
 fn queue_name(field: Option<&[u8]>) -> Result<Option<&[u8]>, RouteFault>
-    ensures { Says option_copied (optionally (name_of queue_name_fault) (option_copied field.entry)) result }
+    ensures { Says option_copied (optionally (name_of queue_name_fault) (option_copied field.entry))
+        result }
 {
     match field {
         None => Ok(None),
@@ -508,7 +532,8 @@ fn queue_name(field: Option<&[u8]>) -> Result<Option<&[u8]>, RouteFault>
 }
 
 fn reply_name(field: Option<&[u8]>) -> Result<Option<&[u8]>, RouteFault>
-    ensures { Says option_copied (optionally (name_of subject_fault) (option_copied field.entry)) result }
+    ensures { Says option_copied (optionally (name_of subject_fault) (option_copied field.entry))
+        result }
 {
     match field {
         None => Ok(None),
@@ -605,7 +630,8 @@ pub(crate) fn read_snapshot<'a>(
     common: Common<'a>,
     text: &'a [u8],
 ) -> Result<NumberedText<'a>, RouteFault>
-    ensures { Says numbered_view (snapshot_line (common_view common.entry) (fields text.now)) result }
+    ensures { Says numbered_view (snapshot_line (common_view common.entry) (fields text.now))
+        result }
 {
     let field = size_alone(text).ok_or(RouteFault::BadArgs)?;
     let digits = common.digits()?;
@@ -703,21 +729,20 @@ fn headers_in_range(size: u64, headers: Option<u64>) -> Result<Option<u64>, Rout
     }
 }
 
-/// `RMSG` or `RHMSG`, behind the common fields, by the fields that it has there.
-#[tactic(auto, unfolding(crate::specs::NumberedLines::publication_line))]
-pub(crate) fn read_message<'a>(
+/// A publication with numbers in their ranges, by its other fields.
+#[inline(always)]
+fn read_names<'a>(
     common: Common<'a>,
-    found: Option<MessageFields<'a>>,
+    digits: Digits,
+    message: MessageFields<'a>,
+    headers: Option<u64>,
+    size: u64,
 ) -> Result<NumberedText<'a>, RouteFault>
-    ensures { Says numbered_view (publication_line (common_view common.entry) (option_map message_view found.entry)) result }
+    ensures { Says numbered_view
+        (publication_with (common_view common.entry) (numbers_view digits)
+        (message_view message.entry) headers size)
+        result }
 {
-    let message = with_few_names(found)?;
-    let digits = common.digits()?;
-    let size = spelt_number(message.form.size, SIZE_DIGITS)?;
-    let headers = spelt_headers(message.headers)?;
-    let _numbers = digits.in_range(1)?;
-    let size = within(0, MAX_PAYLOAD as u64, size)?;
-    let headers = headers_in_range(size, headers)?;
     check_account(message.account)?;
     let _from = node(common.from)?;
     let _to = node(common.to)?;
@@ -736,4 +761,39 @@ pub(crate) fn read_message<'a>(
             size,
         },
     })
+}
+
+/// A publication, by the numbers that it spells and its other fields.
+#[inline(always)]
+fn read_numbers<'a>(
+    common: Common<'a>,
+    digits: Digits,
+    message: MessageFields<'a>,
+    headers: Option<u64>,
+    size: u64,
+) -> Result<NumberedText<'a>, RouteFault>
+    ensures { Says numbered_view
+        (publication_by (common_view common.entry) digits (message_view message.entry) headers size)
+        result }
+{
+    let _numbers = digits.in_range(1)?;
+    let size = within(0, MAX_PAYLOAD as u64, size)?;
+    let headers = headers_in_range(size, headers)?;
+    read_names(common, digits, message, headers, size)
+}
+
+/// `RMSG` or `RHMSG`, behind the common fields, by the fields that it has there.
+#[tactic(auto, unfolding(crate::specs::NumberedLines::publication_line))]
+pub(crate) fn read_message<'a>(
+    common: Common<'a>,
+    found: Option<MessageFields<'a>>,
+) -> Result<NumberedText<'a>, RouteFault>
+    ensures { Says numbered_view
+        (publication_line (common_view common.entry) (option_map message_view found.entry)) result }
+{
+    let message = with_few_names(found)?;
+    let digits = common.digits()?;
+    let size = spelt_number(message.form.size, SIZE_DIGITS)?;
+    let headers = spelt_headers(message.headers)?;
+    read_numbers(common, digits, message, headers, size)
 }

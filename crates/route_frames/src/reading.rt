@@ -3,23 +3,24 @@
 
 ghost use Rattle.route_frames.specs.declared.line_reading.Operation.TheVariants as operation;
 ghost use Rattle.route_frames.specs.declared.reading.RouteLine.TheVariants as route_line;
-ghost use Rattle.std.specs.Prelude.{◌≡◌, Ok, IfOk, true, ℕ, false, List, is_ok};
-ghost use Rattle.route_frames.specs.Lines.{announced_size, announced_headers, body_size, body_headers, line_of_fields, line_meaning};
+ghost use Rattle.route_frames.specs.declared.reading.LineBody.TheVariants as line_body;
+ghost use Rattle.route_frames.specs.declared.reading.BodyText.TheVariants as body_text;
+ghost use Rattle.std.specs.Prelude.{◌≡◌, Ok, Err, IfOk, true, ℕ, false, List, is_ok, is_some, if◌then◌else◌};
+ghost use Rattle.route_frames.specs.Lines.{announced_size, announced_headers, body_size, body_headers, line_of_fields, line_by, line_meaning};
 ghost use Rattle.std.specs.Option.{option_copied, ok_or};
-ghost use Rattle.route_frames.specs.TextViews.{names_view, key_view, weighted_view, body_view, numbered_view, is_json, text_meaning, size_in, joined_text, Judges};
+ghost use Rattle.route_frames.specs.TextViews.{names_view, common_view, key_view, weighted_view, body_view, numbered_view, is_json, text_meaning, size_in, joined_text, Judges};
 ghost use Rattle.route_frames.specs.Meaning.{RouteMeans, MeansBy, Says};
 ghost use Rattle.route_frames.specs.declared.faults.RouteFault.TheVariants.{BadArgs};
 ghost use Rattle.line_fields.specs.Fields.{fields};
 ghost use Rattle.route_frames.specs.Operations.{is_json_line};
-ghost use Rattle.route_frames.specs.Decoding.{size_meaning, payload_meaning, block_meaning, fits_meaning, body_fits, body_in, content_in, message_meaning, frame_of_body as framed_by, frame_behind, frame_of_line, body_has_payload, line_has_payload, frame_meaning, takes_memory, JoinsBy, Joins, failure_of};
-ghost use Rattle.route_frames.specs.NumberedLines.{plus_line, minus_line, snapshot_line, message_line, header_line};
+ghost use Rattle.route_frames.specs.Decoding.{size_meaning, payload_meaning, block_meaning, fits_meaning, body_fits, body_in, content_in, message_meaning, frame_of_body as framed_by, frame_behind, frame_of_line, body_has_payload, line_has_payload, frame_meaning, takes_memory, ReadsBy, JoinsBy, Joins, failure_of};
 ghost use Rattle.route_frames.specs.Refusals.{IsSizeOf, IsReadOf, IsFrameOf};
 
 use crate::faults::RouteFault;
 use crate::greetings::{read_connect, read_info};
 use crate::line_reading::{
-    Common, Digits, MessageFields, Names, Numbers, Operation, read_message, read_minus, read_plus,
-    read_snapshot,
+    Common, Digits, MessageFields, Names, NumberedOperation, Numbers, Operation, read_message,
+    read_minus, read_plus, read_snapshot,
 };
 use crate::snapshot_reading::read_snapshot_keys;
 use bytes::Bytes;
@@ -35,7 +36,6 @@ use subj::{
 use thiserror::Error;
 
 /// What the line of a numbered frame says behind the common fields.
-#[derive(Drop)]
 pub(crate) enum LineBody {
     Plus(WeightedKey),
     Minus(Key),
@@ -49,6 +49,23 @@ pub(crate) enum LineBody {
         headers: Option<u64>,
         size: u64,
     },
+}
+
+/// By hand, so that it is one call: a derived drop is spelt out, and proved, wherever a line goes out
+/// of scope.
+impl Drop for LineBody {
+    fn drop(self) {
+        match self {
+            LineBody::Plus(_) | LineBody::Minus(_) | LineBody::Snapshot(_) => {}
+            LineBody::Msg {
+                subject: _,
+                reply: _,
+                queues: _,
+                headers: _,
+                size: _,
+            } => {}
+        }
+    }
 }
 
 /// The line of a numbered frame, as it was read.
@@ -103,6 +120,18 @@ impl From<RouteFault> for Unjoined {
 
     fn from(fault: RouteFault) -> Unjoined {
         Unjoined::Refused(fault)
+    }
+}
+
+impl Unjoined {
+    /// The same, without what is given back.
+    fn failure(self) -> Failure<RouteFault>
+        ensures { failure_of (Err self) ≡ Err result }
+    {
+        match &self {
+            Unjoined::Refused(fault) => Failure::Refused(*fault),
+            Unjoined::OutOfMemory { .. } => Failure::OutOfMemory,
+        }
     }
 }
 
@@ -236,13 +265,52 @@ impl WeightedText<'_> {
     }
 }
 
+/// The subject and the reply of a publication, with parts of their own.
+#[inline(always)]
+fn copy_address(
+    alloc: Global,
+    subject: &[u8],
+    reply: Option<&[u8]>,
+) -> Result<(Subject, Option<Reply>), AllocError>
+    ensures { IfOk result (λ copies.
+        (copies.0 ≡ subject.now) × (copies.1 ≡ option_copied reply.entry)) }
+{
+    let subject = name_copy(Subject::read(alloc, subject))?;
+    let reply = copy_reply(alloc, reply)?;
+    Ok((subject, reply))
+}
+
+/// What the line of a publication says, with parts of its own.
+#[inline(always)]
+fn copy_message(
+    alloc: Global,
+    subject: &[u8],
+    reply: Option<&[u8]>,
+    names: Names<'_>,
+    headers: Option<u64>,
+    size: u64,
+) -> Result<LineBody, AllocError>
+    ensures { IfOk result (λ body.
+        body ≡ body_view (body_text.Msg subject.entry reply.entry names.entry headers size)) }
+{
+    let queues = copy_queues(alloc, names)?;
+    let (subject, reply) = copy_address(alloc, subject, reply)?;
+    Ok(LineBody::Msg {
+        subject,
+        reply,
+        queues,
+        headers,
+        size,
+    })
+}
+
 impl BodyText<'_> {
     fn copy(self, alloc: Global) -> Result<LineBody, AllocError>
         ensures { IfOk result (λ body. body ≡ body_view self.entry) }
     {
         match self {
-            BodyText::Plus(weighted) => Ok(LineBody::Plus(weighted.copy(alloc)?)),
-            BodyText::Minus(key) => Ok(LineBody::Minus(key.copy(alloc)?)),
+            BodyText::Plus(weighted) => weighted.copy(alloc).map(LineBody::Plus),
+            BodyText::Minus(key) => key.copy(alloc).map(LineBody::Minus),
             BodyText::Snapshot(size) => Ok(LineBody::Snapshot(size)),
             BodyText::Msg {
                 subject,
@@ -250,18 +318,7 @@ impl BodyText<'_> {
                 names,
                 headers,
                 size,
-            } => {
-                let subject = name_copy(Subject::read(alloc, subject))?;
-                let reply = copy_reply(alloc, reply)?;
-                let queues = copy_queues(alloc, names)?;
-                Ok(LineBody::Msg {
-                    subject,
-                    reply,
-                    queues,
-                    headers,
-                    size,
-                })
-            }
+            } => copy_message(alloc, subject, reply, names, headers, size),
         }
     }
 }
@@ -338,39 +395,33 @@ impl LineText<'_> {
     }
 }
 
-fn plus(text: &[u8]) -> Result<NumberedText<'_>, RouteFault>
-    ensures { Says (λ line. route_line.Numbered (numbered_view line)) (line_of_fields plus_line (fields text.now)) result }
+/// What a numbered line says behind its common fields.
+fn read_behind<'a>(
+    operation: NumberedOperation,
+    common: Common<'a>,
+    text: &'a [u8],
+) -> Result<NumberedText<'a>, RouteFault>
+    ensures { Says numbered_view (line_by operation (common_view common.entry) (fields text.now))
+        result }
 {
-    let (common, behind) = Common::read(text).ok_or(RouteFault::BadArgs)?;
-    read_plus(common, behind)
+    match operation {
+        NumberedOperation::Plus => read_plus(common, text),
+        NumberedOperation::Minus => read_minus(common, text),
+        NumberedOperation::Snapshot => read_snapshot(common, text),
+        NumberedOperation::Msg => read_message(common, MessageFields::read(Names::all(text))),
+        NumberedOperation::HeaderMsg => {
+            read_message(common, MessageFields::read_with_headers(Names::all(text)))
+        }
+    }
 }
 
-fn minus(text: &[u8]) -> Result<NumberedText<'_>, RouteFault>
-    ensures { Says (λ line. route_line.Numbered (numbered_view line)) (line_of_fields minus_line (fields text.now)) result }
+/// What a numbered line says behind its operation.
+fn read_numbered(operation: NumberedOperation, text: &[u8]) -> Result<NumberedText<'_>, RouteFault>
+    ensures { Says (λ line. route_line.Numbered (numbered_view line))
+        (line_of_fields (line_by operation) (fields text.now)) result }
 {
     let (common, behind) = Common::read(text).ok_or(RouteFault::BadArgs)?;
-    read_minus(common, behind)
-}
-
-fn snapshot(text: &[u8]) -> Result<NumberedText<'_>, RouteFault>
-    ensures { Says (λ line. route_line.Numbered (numbered_view line)) (line_of_fields snapshot_line (fields text.now)) result }
-{
-    let (common, behind) = Common::read(text).ok_or(RouteFault::BadArgs)?;
-    read_snapshot(common, behind)
-}
-
-fn message(text: &[u8]) -> Result<NumberedText<'_>, RouteFault>
-    ensures { Says (λ line. route_line.Numbered (numbered_view line)) (line_of_fields message_line (fields text.now)) result }
-{
-    let (common, behind) = Common::read(text).ok_or(RouteFault::BadArgs)?;
-    read_message(common, MessageFields::read(Names::all(behind)))
-}
-
-fn header_message(text: &[u8]) -> Result<NumberedText<'_>, RouteFault>
-    ensures { Says (λ line. route_line.Numbered (numbered_view line)) (line_of_fields header_line (fields text.now)) result }
-{
-    let (common, behind) = Common::read(text).ok_or(RouteFault::BadArgs)?;
-    read_message(common, MessageFields::read_with_headers(Names::all(behind)))
+    read_behind(operation, common, behind)
 }
 
 /// What a line says, as it stands there.
@@ -385,11 +436,9 @@ fn read_text(line: &[u8]) -> Result<LineText<'_>, RouteFault>
         None => Err(RouteFault::UnknownOp),
         Some(Operation::Info) => Ok(LineText::Info(text)),
         Some(Operation::Connect) => Ok(LineText::Connect(text)),
-        Some(Operation::Plus) => Ok(LineText::Numbered(plus(text)?)),
-        Some(Operation::Minus) => Ok(LineText::Numbered(minus(text)?)),
-        Some(Operation::Snapshot) => Ok(LineText::Numbered(snapshot(text)?)),
-        Some(Operation::Msg) => Ok(LineText::Numbered(message(text)?)),
-        Some(Operation::HeaderMsg) => Ok(LineText::Numbered(header_message(text)?)),
+        Some(Operation::Numbered(operation)) => {
+            Ok(LineText::Numbered(read_numbered(operation, text)?))
+        }
     }
 }
 
@@ -442,23 +491,27 @@ fn reply_copy(reply: &Option<Reply>) -> Result<Option<Reply>, AllocError>
     }
 }
 
+/// Whether bytes are not too many, and begin with a header block of this size, where there is to be one.
+fn check_body(headers: Option<u64>, bytes: &[u8]) -> Result<(), RouteFault>
+    ensures { result ≡ (if is_some (body_in headers bytes.now) then Ok tt else Err BadArgs) }
+{
+    if bytes.len() > MAX_PAYLOAD {
+        return Err(RouteFault::BadArgs);
+    }
+    check_block(headers, bytes)
+}
+
 /// A header block of this size, where there is one, and the payload behind it; they share the bytes.
 fn body_of(headers: Option<u64>, bytes: &Bytes) -> Result<MessageBody, Failure<RouteFault>>
     ensures { RouteMeans false (ok_or (body_in headers bytes.now) BadArgs) result }
 {
-    if bytes.len() > MAX_PAYLOAD {
-        return Err(Failure::Refused(RouteFault::BadArgs));
-    }
-    check_block(headers, bytes)?;
+    check_body(headers, bytes)?;
     let bytes = bytes.clone()?;
-    match headers {
-        None => Ok(MessageBody::plain(bytes)),
-        Some(headers) => match MessageBody::split(bytes, headers as usize)? {
-            Some(body) => Ok(body),
-            // the block begins as it has to
-            None => unreachable!(),
-        },
-    }
+    let Some(headers) = headers else {
+        return Ok(MessageBody::plain(bytes));
+    };
+    let body = MessageBody::split(bytes, headers as usize)?;
+    Ok(body.ok_or(RouteFault::BadArgs)?)
 }
 
 /// The message of a line and what stands behind it; copies share their bytes.
@@ -507,9 +560,76 @@ fn numbered_frame(
     Ok(RouteFrame::Numbered(frame.ok_or(RouteFault::BadArgs)?))
 }
 
+/// Why the payload behind a line was not read.
+enum Unread {
+    /// It is not what the line announces.
+    Refused(RouteFault),
+    /// The allocator gave no memory. What the line says is here as it was.
+    OutOfMemory(LineBody),
+}
+
+/// A snapshot of so many bytes.
+fn snapshot_body(alloc: Global, size: u64, payload: &[u8]) -> Result<Body, Unread>
+    ensures { ReadsBy (line_body.Snapshot size) payload.now result }
+{
+    match read_snapshot_keys(alloc, payload) {
+        Ok(keys) => Ok(Body::Snapshot(keys)),
+        Err(Failure::Refused(fault)) => Err(Unread::Refused(fault)),
+        Err(Failure::OutOfMemory) => Err(Unread::OutOfMemory(LineBody::Snapshot(size))),
+    }
+}
+
+/// A publication, by what its line says and the payload.
+#[inline(always)]
+fn message_body(
+    alloc: Global,
+    subject: Subject,
+    reply: Option<Reply>,
+    queues: QueueNames,
+    headers: Option<u64>,
+    size: u64,
+    payload: &Bytes,
+) -> Result<Body, Unread>
+    ensures { ReadsBy (line_body.Msg subject reply queues headers size) payload.now result }
+{
+    match message_of(alloc, &subject, &reply, headers, payload) {
+        Ok(message) => Ok(Body::Msg { message, queues }),
+        Err(Failure::Refused(fault)) => Err(Unread::Refused(fault)),
+        Err(Failure::OutOfMemory) => Err(Unread::OutOfMemory(LineBody::Msg {
+            subject,
+            reply,
+            queues,
+            headers,
+            size,
+        })),
+    }
+}
+
+impl LineBody {
+    /// What a frame says, by what its line says and the payload behind it.
+    #[inline(always)]
+    fn read(self, alloc: Global, payload: &Bytes) -> Result<Body, Unread>
+        ensures { ReadsBy self payload.now result }
+    {
+        match self {
+            LineBody::Plus(key) => Ok(Body::Plus(key)),
+            LineBody::Minus(key) => Ok(Body::Minus(key)),
+            LineBody::Snapshot(size) => snapshot_body(alloc, size, payload.as_slice()),
+            LineBody::Msg {
+                subject,
+                reply,
+                queues,
+                headers,
+                size,
+            } => message_body(alloc, subject, reply, queues, headers, size, payload),
+        }
+    }
+}
+
 #[tactic(auto, unfolding(crate::specs::Decoding::numbered_meaning))]
 fn join_numbered(alloc: Global, line: NumberedLine, payload: Bytes) -> Result<RouteFrame, Unjoined>
-    ensures { JoinsBy (body_has_payload line.body) (frame_behind (route_line.Numbered line) payload) (route_line.Numbered line) payload result }
+    ensures { JoinsBy (body_has_payload line.body) (frame_behind (route_line.Numbered line) payload)
+        (route_line.Numbered line) payload result }
 {
     let NumberedLine {
         from,
@@ -517,51 +637,19 @@ fn join_numbered(alloc: Global, line: NumberedLine, payload: Bytes) -> Result<Ro
         numbers,
         body,
     } = line;
-    let body = match body {
-        LineBody::Plus(key) => Body::Plus(key),
-        LineBody::Minus(key) => Body::Minus(key),
-        LineBody::Snapshot(size) => match read_snapshot_keys(alloc, payload.as_slice()) {
-            Ok(keys) => Body::Snapshot(keys),
-            Err(Failure::Refused(fault)) => return Err(Unjoined::Refused(fault)),
-            Err(Failure::OutOfMemory) => {
-                let body = LineBody::Snapshot(size);
-                let line = RouteLine::Numbered(NumberedLine {
-                    from,
-                    to,
-                    numbers,
-                    body,
-                });
-                return Err(Unjoined::OutOfMemory { line, payload });
-            }
-        },
-        LineBody::Msg {
-            subject,
-            reply,
-            queues,
-            headers,
-            size,
-        } => match message_of(alloc, &subject, &reply, headers, &payload) {
-            Ok(message) => Body::Msg { message, queues },
-            Err(Failure::Refused(fault)) => return Err(Unjoined::Refused(fault)),
-            Err(Failure::OutOfMemory) => {
-                let body = LineBody::Msg {
-                    subject,
-                    reply,
-                    queues,
-                    headers,
-                    size,
-                };
-                let line = RouteLine::Numbered(NumberedLine {
-                    from,
-                    to,
-                    numbers,
-                    body,
-                });
-                return Err(Unjoined::OutOfMemory { line, payload });
-            }
-        },
-    };
-    Ok(numbered_frame(from, to, numbers, body)?)
+    match body.read(alloc, &payload) {
+        Ok(body) => numbered_frame(from, to, numbers, body).map_err(Unjoined::Refused),
+        Err(Unread::Refused(fault)) => Err(Unjoined::Refused(fault)),
+        Err(Unread::OutOfMemory(body)) => {
+            let line = RouteLine::Numbered(NumberedLine {
+                from,
+                to,
+                numbers,
+                body,
+            });
+            Err(Unjoined::OutOfMemory { line, payload })
+        }
+    }
 }
 
 /// The frame of a line and a payload of the size that it announces.
@@ -579,11 +667,7 @@ fn join(alloc: Global, line: RouteLine, payload: Bytes) -> Result<RouteFrame, Un
 fn joined_frame(joined: Result<RouteFrame, Unjoined>) -> Result<RouteFrame, Failure<RouteFault>>
     ensures { result ≡ failure_of joined }
 {
-    match joined {
-        Ok(frame) => Ok(frame),
-        Err(Unjoined::Refused(fault)) => Err(Failure::Refused(fault)),
-        Err(Unjoined::OutOfMemory { .. }) => Err(Failure::OutOfMemory),
-    }
+    joined.map_err(Unjoined::failure)
 }
 
 /// The frame of a numbered line. The size of the payload and how it begins are judged before the parts are copied.
@@ -592,7 +676,8 @@ fn decode_numbered(
     line: NumberedText<'_>,
     payload: Bytes,
 ) -> Result<RouteFrame, Failure<RouteFault>>
-    ensures { MeansBy (λ frame. frame) (is_ok (body_fits (body_view line.entry.body) payload)) (frame_of_line (route_line.Numbered (numbered_view line.entry)) payload) result }
+    ensures { MeansBy (λ frame. frame) (is_ok (body_fits (body_view line.entry.body) payload))
+        (frame_of_line (route_line.Numbered (numbered_view line.entry)) payload) result }
 {
     check_payload(line.payload_size(), line.header_size(), payload.as_slice())?;
     let line = RouteLine::Numbered(line.copy(alloc)?);
@@ -642,7 +727,9 @@ impl RouteLine {
     /// only where a payload of the announced size is read as a snapshot or shared as a message, and gives
     /// the line and the payload back. (Profile.)
     pub fn into_frame(self, alloc: Global, payload: Bytes) -> Result<RouteFrame, Unjoined>
-        ensures spelt { (line : List ℕ) → line_meaning line ≡ Ok self → IsFrameOf line payload (failure_of result) }
+        ensures spelt { (line : List ℕ)
+            → line_meaning line ≡ Ok self
+            → IsFrameOf line payload (failure_of result) }
         ensures means { Joins self payload result }
     {
         let size = self.payload_size();
@@ -669,7 +756,8 @@ pub fn payload_size(alloc: Global, line: &[u8]) -> Result<Option<u64>, Failure<R
 /// profile.)
 pub fn decode(alloc: Global, line: &[u8], payload: Bytes) -> Result<RouteFrame, Failure<RouteFault>>
     ensures spelt { IsFrameOf line.now payload result }
-    ensures means { RouteMeans (takes_memory line.now payload) (frame_meaning line.now payload) result }
+    ensures means { RouteMeans (takes_memory line.now payload) (frame_meaning line.now payload)
+        result }
 {
     let text = read_text(line)?;
     match text {

@@ -279,11 +279,7 @@ impl DeliveryBuffer {
             let placed = due_placed(self.alloc, self.shard, job, lines, sub, headers)?;
             self.put.push(placed)?;
         }
-        self.given.push(sub.serial)?;
-        if is_last(sub) {
-            self.ended.push(sub.serial)?;
-        }
-        Ok(())
+        self.note_given(sub.serial, is_last(sub))
     }
 
     /// Whether no connection was shut, and no subscription is to close.
@@ -318,11 +314,10 @@ impl DeliveryBuffer {
         ensures conns { OnOk result (conns.new.next ≡ clients_with_change (with_last slow_consumer) conn conns.old.next) }
         ensures buffer { OnOk result (self.new ≡ with_shut openings.now.subs conn self.old) }
     {
+        self.shut.push(conn)?;
         let left = openings.left_of(conn, &self.ended)?;
         self.ended.extend_from_slice(&left)?;
-        self.shut.push(conn)?;
-        conns.stage_last(seat, ErrText::SlowConsumer.line())?;
-        Ok(())
+        conns.stage_last(seat, ErrText::SlowConsumer.line())
     }
 
     /// Gives a subscription without a queue name its entry, for which there is room, unseen.
@@ -350,8 +345,7 @@ impl DeliveryBuffer {
             serial: sub.serial,
         };
         let body = message_body(&job.message, seat.takes_headers);
-        conns.stage_message(seat, job.id, id, Mode::Plain, &self.line, body)?;
-        Ok(())
+        conns.stage_message(seat, job.id, id, Mode::Plain, &self.line, body)
     }
 
     /// One step of the walk, unseen.

@@ -58,23 +58,19 @@ fn is_candidate(claim: &QueueClaim, lines: &MessageLines, conns: &Conns, sub: &S
     is_named(claim.name, sub) && may_get(claim.job, sub) && has_room(claim, lines, conns, sub)
 }
 
-/// The candidates among those that match.
-fn candidates<'a>(
+/// Keeps the candidates among those that match.
+fn keep_candidates(
     claim: &QueueClaim,
     lines: &MessageLines,
     conns: &Conns,
-    matching: &[&'a Subscription],
-) -> Result<Vec<&'a Subscription>, AllocError>
+    subs: &mut Vec<&Subscription>,
+)
     requires { lines.now ≡ line_forms claim.now.job.now.message }
-    ensures { IfOk result (λ subs. lent_subs subs.items ≡ filter (is_member claim.now.shard conns.now.next claim.now.job.now claim.now.name.now) (lent_subs matching.now)) }
+    ensures { lent_subs subs.new.items
+        ≡ filter (is_member claim.now.shard conns.now.next claim.now.job.now claim.now.name.now)
+        (lent_subs subs.old.items) }
 {
-    let mut subs = Vec::with_capacity(claim.alloc, matching.len())?;
-    for sub in matching {
-        if is_candidate(claim, lines, conns, sub) {
-            subs.push(*sub)?;
-        }
-    }
-    Ok(subs)
+    subs.retain(|sub| is_candidate(claim, lines, conns, sub));
 }
 
 /// A copy of the entry that the member is owed at a connection that takes headers or does not, where it is asked for.
@@ -105,8 +101,9 @@ fn open_candidates<'a, T: SubTable>(
     ensures all { IfOk result (λ subs. lent_subs subs.items ≡ filter (is_member claim.now.shard conns.now.next claim.now.job.now claim.now.name.now) (filter (gets claim.now.job.now.message.subject) openings.now.subs)) }
     ensures rising { AreRising openings.now.subs }
 {
-    let matching = openings.members(claim.job.message.subject(), claim.name)?;
-    candidates(claim, lines, conns, &matching)
+    let mut subs = openings.members(claim.job.message.subject(), claim.name)?;
+    keep_candidates(claim, lines, conns, &mut subs);
+    Ok(subs)
 }
 
 /// Stages the entry that the member is owed.
@@ -131,8 +128,7 @@ fn stage_due(
         serial: sub.serial,
     };
     let body = message_body(&claim.job.message, seat.takes_headers);
-    conns.stage_message(seat, claim.job.id, id, mode, &line, body)?;
-    Ok(())
+    conns.stage_message(seat, claim.job.id, id, mode, &line, body)
 }
 
 /// Stages the entry of the member that is chosen, and tells of it.

@@ -96,8 +96,7 @@ fn stage_for(
         Mode::Plain,
         head,
         tail,
-    )?;
-    Ok(())
+    )
 }
 
 /// Gives the receiver its message, for which there is room, unseen.

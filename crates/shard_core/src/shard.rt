@@ -81,8 +81,7 @@ fn put_answer(
     ensures told { AreTold conns.old.shown conns.new.shown dirty_conns.old dirty_conns.new }
 {
     let text = reply_line(alloc, frame)?;
-    let put = conns.put_reply(dirty_conns, conn, &text)?;
-    Ok(put)
+    conns.put_reply(dirty_conns, conn, &text)
 }
 
 /// Puts the last line of a connection that is open, notes for whom it is, and closes all its subscriptions. Gives those. Want of

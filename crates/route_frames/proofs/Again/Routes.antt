@@ -19,12 +19,19 @@ use Rattle.route_frames.proofs.Canonical.Greetings.{plain_without_cr, info_text,
 -- ---- lines and payloads are short
 
 lines : (frame : RouteFrame) → IsRouteFrame frame → IsShortLine (canonical_line frame)
-lines (Info info) is = let text = info_text info is in let short = text.short in record { plain = plain_without_cr (canonical_line (Info info)) text.plain; short = omega arith }
-lines (Connect connect) is = let text = connect_text connect is in let short = text.short in record { plain = plain_without_cr (canonical_line (Connect connect)) text.plain; short = omega arith }
+lines (Info info) is =
+    let text = info_text info is in
+    let short = text.short in
+    record { plain = plain_without_cr (canonical_line (Info info)) text.plain; short = omega arith }
+lines (Connect connect) is =
+    let text = connect_text connect is in
+    let short = text.short in
+    record { plain = plain_without_cr (canonical_line (Connect connect)) text.plain; short = omega arith }
 lines (Numbered frame) is = line_short frame is
 
 pub are_lines : AreLines
-are_lines frame is = let text = lines frame is in record { short = text.short; whole = none_is (canonical_line frame) text.plain }
+are_lines frame is =
+    let text = lines frame is in record { short = text.short; whole = none_is (canonical_line frame) text.plain }
 
 pub is_cut_again : IsCutAgain
 is_cut_again frame rest is = let text = lines frame is in line_cut (canonical_line frame) rest text.plain text.short
@@ -42,13 +49,17 @@ are_payloads (Numbered frame) is = payload_short frame.body is.body
 
 -- ---- a line and its payload are read as the frame that they spell
 
-body_announced : (body : Body) → body_announces body (unwrap_or (body_payload body) []) ≡ option_map (λ payload. length payload) (body_payload body)
+body_announced : (body : Body)
+    → body_announces body (unwrap_or (body_payload body) [])
+    ≡ option_map (λ payload. length payload) (body_payload body)
 body_announced (Plus weighted) = refl
 body_announced (Minus key) = refl
 body_announced (Snapshot keys) = refl
 body_announced (Msg message queues) = refl
 
-announced : (frame : RouteFrame) → announces frame (unwrap_or (canonical_payload frame) []) ≡ option_map (λ payload. length payload) (canonical_payload frame)
+announced : (frame : RouteFrame)
+    → announces frame (unwrap_or (canonical_payload frame) [])
+    ≡ option_map (λ payload. length payload) (canonical_payload frame)
 announced (Info info) = refl
 announced (Connect connect) = refl
 announced (Numbered frame) = body_announced frame.body
@@ -56,7 +67,10 @@ announced (Numbered frame) = body_announced frame.body
 pub is_announced_again : IsAnnouncedAgain
 is_announced_again frame is =
     let spelt = canonical_is_spelt frame is in
-    announced_is_told (canonical_line frame) (announces frame (unwrap_or (canonical_payload frame) [])) (frame, spelt.in_line) ∙ ap (λ size. Ok size) (announced frame)
+    announced_is_told (canonical_line frame) (announces frame (unwrap_or (canonical_payload frame) []))
+    (frame, spelt.in_line)
+    ∙ ap (λ size. Ok size) (announced frame)
 
 pub is_read_again : IsReadAgain
-is_read_again frame is = spelt_is_read frame (canonical_line frame) (unwrap_or (canonical_payload frame) []) (canonical_is_spelt frame is)
+is_read_again frame is =
+    spelt_is_read frame (canonical_line frame) (unwrap_or (canonical_payload frame) []) (canonical_is_spelt frame is)

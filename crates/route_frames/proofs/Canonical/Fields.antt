@@ -39,14 +39,20 @@ append_fields (field ∷ front) behind are are_too = (are.0, append_fields front
 
 -- ---- names are fields
 
-no_blank_byte : (byte : ℕ) (rest : Bool) → (names.is_forbidden byte || rest) ≡ false → (is_blank byte ≡ false) × (rest ≡ false)
+no_blank_byte : (byte : ℕ) (rest : Bool)
+    → (names.is_forbidden byte || rest) ≡ false
+    → (is_blank byte ≡ false) × (rest ≡ false)
 no_blank_byte byte rest e = grind (arith, nat_tests)
 
 no_blanks : (text : List ℕ) → names.has_forbidden text ≡ false → list_any is_blank text ≡ false
 no_blanks [] e = refl
-no_blanks (byte ∷ bytes) e = let head = no_blank_byte byte (names.has_forbidden bytes) e in ap (λ b. b || list_any is_blank bytes) head.0 ∙ no_blanks bytes head.1
+no_blanks (byte ∷ bytes) e =
+    let head = no_blank_byte byte (names.has_forbidden bytes) e in
+    ap (λ b. b || list_any is_blank bytes) head.0 ∙ no_blanks bytes head.1
 
-plain_by : (most : ℕ) (bad : Bool) (text : List ℕ) → names.text_fault most bad text ≡ None → (is_empty text ≡ false) × (bad ≡ false)
+plain_by : (most : ℕ) (bad : Bool) (text : List ℕ)
+    → names.text_fault most bad text ≡ None
+    → (is_empty text ≡ false) × (bad ≡ false)
 plain_by most bad [] e = absurd (cc)
 plain_by most bad (byte ∷ bytes) e = (refl, chosen (nat_lt most (length (byte ∷ bytes))) bad e) where
   chosen : (long bad : Bool) → cond long (Some TooLong) (cond bad (Some BadByte) None) ≡ None → bad ≡ false
@@ -63,24 +69,34 @@ first_none (Some x) b e = absurd (cc)
 
 pub subject_is_field : (text : List ℕ) → names.subject_fault text ≡ None → IsField text
 subject_is_field text e =
-    let plain = plain_by _ (names.has_forbidden text) text (first_none (names.forbidden_fault MAX_SUBJECT text) (names.subject_token_fault (names.tokens text)) e) in (plain.0, no_blanks text plain.1)
+    let plain = plain_by _ (names.has_forbidden text) text
+    (first_none (names.forbidden_fault MAX_SUBJECT text) (names.subject_token_fault (names.tokens text)) e) in
+    (plain.0, no_blanks text plain.1)
 
 pub pattern_is_field : (text : List ℕ) → names.pattern_fault text ≡ None → IsField text
 pattern_is_field text e =
-    let plain = plain_by _ (names.has_forbidden text) text (first_none (names.forbidden_fault MAX_SUBJECT text) (names.pattern_token_fault (names.tokens text)) e) in (plain.0, no_blanks text plain.1)
+    let plain = plain_by _ (names.has_forbidden text) text
+    (first_none (names.forbidden_fault MAX_SUBJECT text) (names.pattern_token_fault (names.tokens text)) e) in
+    (plain.0, no_blanks text plain.1)
 
 pub queue_plain : (name : List ℕ) → names.queue_name_fault name ≡ None → names.has_forbidden name ≡ false
 queue_plain name e = (plain_by _ (names.has_forbidden name) name e).1
 
 pub pattern_plain : (text : List ℕ) → names.pattern_fault text ≡ None → names.has_forbidden text ≡ false
-pattern_plain text e = (plain_by _ (names.has_forbidden text) text (first_none (names.forbidden_fault MAX_SUBJECT text) (names.pattern_token_fault (names.tokens text)) e)).1
+pattern_plain text e =
+    (plain_by _ (names.has_forbidden text) text
+    (first_none (names.forbidden_fault MAX_SUBJECT text) (names.pattern_token_fault (names.tokens text)) e)).1
 
-name_byte : (byte : ℕ) (rest : Bool) → (not (names.is_node_name_byte byte) || rest) ≡ false → (is_blank byte ≡ false) × (rest ≡ false)
+name_byte : (byte : ℕ) (rest : Bool)
+    → (not (names.is_node_name_byte byte) || rest) ≡ false
+    → (is_blank byte ≡ false) × (rest ≡ false)
 name_byte byte rest e = grind (arith, nat_tests)
 
 name_bytes : (text : List ℕ) → names.has_no_name_byte text ≡ false → list_any is_blank text ≡ false
 name_bytes [] e = refl
-name_bytes (byte ∷ bytes) e = let head = name_byte byte (names.has_no_name_byte bytes) e in ap (λ b. b || list_any is_blank bytes) head.0 ∙ name_bytes bytes head.1
+name_bytes (byte ∷ bytes) e =
+    let head = name_byte byte (names.has_no_name_byte bytes) e in
+    ap (λ b. b || list_any is_blank bytes) head.0 ∙ name_bytes bytes head.1
 
 pub node_is_field : (name : List ℕ) → names.node_name_fault name ≡ None → IsField name
 node_is_field name e = let plain = plain_by _ (names.has_no_name_byte name) name e in (plain.0, name_bytes name plain.1)
@@ -92,7 +108,9 @@ digit_byte byte rest e = grind (arith, nat_tests)
 
 digit_bytes : (text : List ℕ) → all_ascii_digits text ≡ true → list_any is_blank text ≡ false
 digit_bytes [] e = refl
-digit_bytes (byte ∷ bytes) e = let head = digit_byte byte (all_ascii_digits bytes) e in ap (λ b. b || list_any is_blank bytes) head.0 ∙ digit_bytes bytes head.1
+digit_bytes (byte ∷ bytes) e =
+    let head = digit_byte byte (all_ascii_digits bytes) e in
+    ap (λ b. b || list_any is_blank bytes) head.0 ∙ digit_bytes bytes head.1
 
 abbrev read_on : ℕ → List ℕ → ℕ
 read_on n [] = n
@@ -109,15 +127,26 @@ pub all_digits : (n : ℕ) → n < 2 ^ 64 → all_ascii_digits (decimal n) ≡ t
 all_digits n small = digits_decimal own n small
 
 pub number_is_field : (n : ℕ) → n < 2 ^ 64 → IsField (decimal n)
-number_is_field n small = (some_bytes (decimal n) (decimal_nonempty n small), digit_bytes (decimal n) (all_digits n small))
+number_is_field n small = (
+  some_bytes (decimal n) (decimal_nonempty n small),
+  digit_bytes (decimal n) (all_digits n small),
+)
 
-digit_field : (most : ℕ) (field : List ℕ) (empty short digits : Bool) → is_empty field ≡ empty → nat_le (length field) most ≡ short → all_ascii_digits field ≡ digits → empty ≡ false → short ≡ true → digits ≡ true → is_digit_field most field ≡ true
+digit_field : (most : ℕ) (field : List ℕ) (empty short digits : Bool)
+    → is_empty field ≡ empty
+    → nat_le (length field) most ≡ short
+    → all_ascii_digits field ≡ digits
+    → empty ≡ false
+    → short ≡ true
+    → digits ≡ true
+    → is_digit_field most field ≡ true
 digit_field most field empty short digits e s d none some all = grind (arith, nat_tests)
 
 pub number_again : (most n : ℕ) → 0 < most → n < 10 ^ most → n < 2 ^ 64 → number_of most (decimal n) ≡ Some n
 number_again most n some short small =
-    let is : is_digit_field most (decimal n) ≡ true =
-    digit_field most (decimal n) _ _ _ refl refl refl (some_bytes (decimal n) (decimal_nonempty n small)) (le-leb _ _ (length-decimal-le most n some short small)) (all_digits n small) in
+    let is : is_digit_field most (decimal n) ≡ true = digit_field most (decimal n) _ _ _ refl refl refl
+    (some_bytes (decimal n) (decimal_nonempty n small)) (le-leb _ _ (length-decimal-le most n some short small))
+    (all_digits n small) in
     ap (λ b. cond b (Some (digits_value 10 (decimal n))) None) is ∙ ap (λ n. Some n) (decimal_is_IsNumeral n small).1
 
 -- ---- names are short
@@ -125,15 +154,22 @@ number_again most n some short small =
 short_by : (most : ℕ) (bad : Bool) (text : List ℕ) → names.text_fault most bad text ≡ None → length text ≤ most
 short_by most bad [] e = absurd (cc)
 short_by most bad (byte ∷ bytes) e = chosen (nat_lt most (length (byte ∷ bytes))) bad refl e where
-  chosen : (long bad : Bool) → nat_lt most (length (byte ∷ bytes)) ≡ long → cond long (Some TooLong) (cond bad (Some BadByte) None) ≡ None → length (byte ∷ bytes) ≤ most
+  chosen : (long bad : Bool)
+      → nat_lt most (length (byte ∷ bytes)) ≡ long
+      → cond long (Some TooLong) (cond bad (Some BadByte) None) ≡ None
+      → length (byte ∷ bytes) ≤ most
   chosen true bad is e = absurd (cc)
   chosen false bad is e = grind (arith, nat_tests)
 
 pub subject_short : (text : List ℕ) → names.subject_fault text ≡ None → length text ≤ MAX_SUBJECT
-subject_short text e = short_by MAX_SUBJECT (names.has_forbidden text) text (first_none (names.forbidden_fault MAX_SUBJECT text) (names.subject_token_fault (names.tokens text)) e)
+subject_short text e =
+    short_by MAX_SUBJECT (names.has_forbidden text) text
+    (first_none (names.forbidden_fault MAX_SUBJECT text) (names.subject_token_fault (names.tokens text)) e)
 
 pub pattern_short : (text : List ℕ) → names.pattern_fault text ≡ None → length text ≤ MAX_SUBJECT
-pattern_short text e = short_by MAX_SUBJECT (names.has_forbidden text) text (first_none (names.forbidden_fault MAX_SUBJECT text) (names.pattern_token_fault (names.tokens text)) e)
+pattern_short text e =
+    short_by MAX_SUBJECT (names.has_forbidden text) text
+    (first_none (names.forbidden_fault MAX_SUBJECT text) (names.pattern_token_fault (names.tokens text)) e)
 
 pub queue_short : (name : List ℕ) → names.queue_name_fault name ≡ None → length name ≤ MAX_QUEUE_NAME
 queue_short name e = short_by MAX_QUEUE_NAME (names.has_forbidden name) name e
@@ -142,17 +178,25 @@ pub node_short : (name : List ℕ) → names.node_name_fault name ≡ None → l
 node_short name e = short_by MAX_NODE_NAME (names.has_no_name_byte name) name e
 
 pub subject_plain : (text : List ℕ) → names.subject_fault text ≡ None → names.has_forbidden text ≡ false
-subject_plain text e = (plain_by _ (names.has_forbidden text) text (first_none (names.forbidden_fault MAX_SUBJECT text) (names.subject_token_fault (names.tokens text)) e)).1
+subject_plain text e =
+    (plain_by _ (names.has_forbidden text) text
+    (first_none (names.forbidden_fault MAX_SUBJECT text) (names.subject_token_fault (names.tokens text)) e)).1
 
-cr_byte : (byte : ℕ) (rest : Bool) → (not (names.is_node_name_byte byte) || rest) ≡ false → (nat_eq byte 13 ≡ false) × (rest ≡ false)
+cr_byte : (byte : ℕ) (rest : Bool)
+    → (not (names.is_node_name_byte byte) || rest) ≡ false
+    → (nat_eq byte 13 ≡ false) × (rest ≡ false)
 cr_byte byte rest e = grind (arith, nat_tests)
 
 no_cr_in : (text : List ℕ) → names.has_no_name_byte text ≡ false → list_any (λ byte. nat_eq byte 13) text ≡ false
 no_cr_in [] e = refl
-no_cr_in (byte ∷ bytes) e = let head = cr_byte byte (names.has_no_name_byte bytes) e in ap (λ b. b || list_any (λ byte. nat_eq byte 13) bytes) head.0 ∙ no_cr_in bytes head.1
+no_cr_in (byte ∷ bytes) e =
+    let head = cr_byte byte (names.has_no_name_byte bytes) e in
+    ap (λ b. b || list_any (λ byte. nat_eq byte 13) bytes) head.0 ∙ no_cr_in bytes head.1
 
 pub node_plain : (name : List ℕ) → names.node_name_fault name ≡ None → names.has_no_name_byte name ≡ false
 node_plain name e = (plain_by _ (names.has_no_name_byte name) name e).1
 
-pub node_without_cr : (name : List ℕ) → names.node_name_fault name ≡ None → list_any (λ byte. nat_eq byte 13) name ≡ false
+pub node_without_cr : (name : List ℕ)
+    → names.node_name_fault name ≡ None
+    → list_any (λ byte. nat_eq byte 13) name ≡ false
 node_without_cr name e = no_cr_in name (node_plain name e)

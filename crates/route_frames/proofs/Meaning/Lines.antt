@@ -32,7 +32,12 @@ pub record AreEnds (from to : List ℕ) (inc to_inc number : ℕ) : Type 0 where
   pub most : number ≤ MAX_COUNTER
 
 abbrev pub line_spelt : List ℕ → List ℕ → ℕ → ℕ → ℕ → LineBody → NumberedLine
-line_spelt from to inc to_inc number body = record { from = from; to = to; numbers = numbers_spelt inc to_inc number; body = body }
+line_spelt from to inc to_inc number body = record {
+  from = from;
+  to = to;
+  numbers = numbers_spelt inc to_inc number;
+  body = body;
+}
 
 -- the digits of the common fields
 pub record AreDigits (inc to_inc number : ℕ) : Type 0 where
@@ -44,60 +49,141 @@ pub record AreDigits (inc to_inc number : ℕ) : Type 0 where
   pub is_number : IsNumber NUMBER_DIGITS number_digits number
 
 abbrev pub common_with : (from to : List ℕ) (inc to_inc number : ℕ) → AreDigits inc to_inc number → CommonFields
-common_with from to inc to_inc number are = record { from = from; inc = are.inc_digits; to = to; to_inc = are.to_inc_digits; number = are.number_digits }
+common_with from to inc to_inc number are = record {
+  from = from;
+  inc = are.inc_digits;
+  to = to;
+  to_inc = are.to_inc_digits;
+  number = are.number_digits;
+}
 
 digits_mean : (most : ℕ) (digits : List ℕ) (n : ℕ) → IsNumber most digits n → digits_of most digits ≡ Ok n
 digits_mean most digits n is = ap (λ found. ok_or found BadArgs) is
 
-numbers_mean : (from to : List ℕ) (inc to_inc number : ℕ) (are : AreDigits inc to_inc number) → numbers_of (common_with from to inc to_inc number are) ≡ Ok (digits_spelt inc to_inc number)
+numbers_mean : (from to : List ℕ) (inc to_inc number : ℕ) (are : AreDigits inc to_inc number)
+    → numbers_of (common_with from to inc to_inc number are) ≡ Ok (digits_spelt inc to_inc number)
 unfolding numbers_of
 numbers_mean from to inc to_inc number are =
-    rw (digits_mean INCARNATION_DIGITS are.inc_digits inc are.is_inc, digits_mean INCARNATION_DIGITS are.to_inc_digits to_inc are.is_to_inc, digits_mean NUMBER_DIGITS are.number_digits number are.is_number) refl
+    rw (
+      digits_mean INCARNATION_DIGITS are.inc_digits inc are.is_inc,
+      digits_mean INCARNATION_DIGITS are.to_inc_digits to_inc are.is_to_inc,
+      digits_mean NUMBER_DIGITS are.number_digits number are.is_number,
+    )
+    refl
 
 -- ---- RS+
 
 pub plain_weight : (weight : ℕ) → nat_eq weight 1 ≡ true → weight ≡ 1
 plain_weight weight is = grind (arith, nat_tests)
 
-pub queue_weight : (weight : ℕ) → (nat_le 1 weight && nat_le weight MAX_WEIGHT) ≡ true → (1 ≤ weight) × (weight ≤ MAX_WEIGHT)
+pub queue_weight : (weight : ℕ)
+    → (nat_le 1 weight && nat_le weight MAX_WEIGHT) ≡ true
+    → (1 ≤ weight) × (weight ≤ MAX_WEIGHT)
 queue_weight weight is = grind (arith, nat_tests)
 
-plus_by : (from to : List ℕ) (inc to_inc number : ℕ) (are : AreDigits inc to_inc number) (pattern : List ℕ) (queue : Option (List ℕ)) (weight : ℕ) (behind : List (List ℕ)) → AreEnds from to inc to_inc number → 1 ≤ number
-    → IsWeighted (record { pattern = pattern; queue = queue }, weight) → SpellsWeight queue weight behind
-    → plus_line (common_with from to inc to_inc number are) (codes "$G" ∷ pattern ∷ behind) ≡ Ok (line_spelt from to inc to_inc number (said.Plus (record { pattern = pattern; queue = queue }, weight)))
+plus_by : (from to : List ℕ) (inc to_inc number : ℕ) (are : AreDigits inc to_inc number) (pattern : List ℕ)
+    (queue : Option (List ℕ)) (weight : ℕ) (behind : List (List ℕ))
+    → AreEnds from to inc to_inc number
+    → 1 ≤ number
+    → IsWeighted (record { pattern = pattern; queue = queue }, weight)
+    → SpellsWeight queue weight behind
+    → plus_line (common_with from to inc to_inc number are) (codes "$G" ∷ pattern ∷ behind)
+    ≡ Ok (line_spelt from to inc to_inc number (said.Plus (record { pattern = pattern; queue = queue }, weight)))
 unfolding plus_line
 plus_by from to inc to_inc number are pattern None weight behind ends some is spelt =
     let one = plain_weight weight is.weight in
-    rw (spelt, one) (rw (numbers_mean from to inc to_inc number are, in_range_again 1 inc to_inc number ends.life ends.other_life some ends.most, name_again node_name_fault from ends.sender, name_again node_name_fault to ends.receiver, key_again (record { pattern = pattern; queue = None }) is.key) refl)
+    rw (spelt, one)
+    (rw (
+      numbers_mean from to inc to_inc number are,
+      in_range_again 1 inc to_inc number ends.life ends.other_life some ends.most,
+      name_again node_name_fault from ends.sender,
+      name_again node_name_fault to ends.receiver,
+      key_again (record { pattern = pattern; queue = None }) is.key,
+    )
+    refl)
 plus_by from to inc to_inc number are pattern (Some queue) weight behind ends some is spelt =
     let fits = queue_weight weight is.weight in
-    rw spelt.1 (rw (numbers_mean from to inc to_inc number are, digits_mean WEIGHT_DIGITS spelt.0 weight spelt.2, in_range_again 1 inc to_inc number ends.life ends.other_life some ends.most, within_again 1 MAX_WEIGHT weight fits.0 fits.1, name_again node_name_fault from ends.sender, name_again node_name_fault to ends.receiver, key_again (record { pattern = pattern; queue = Some queue }) is.key, weighted_again (record { pattern = pattern; queue = Some queue }, weight) is.weight) refl)
+    rw spelt.1 (rw (
+      numbers_mean from to inc to_inc number are,
+      digits_mean WEIGHT_DIGITS spelt.0 weight spelt.2,
+      in_range_again 1 inc to_inc number ends.life ends.other_life some ends.most,
+      within_again 1 MAX_WEIGHT weight fits.0 fits.1,
+      name_again node_name_fault from ends.sender,
+      name_again node_name_fault to ends.receiver,
+      key_again (record { pattern = pattern; queue = Some queue }) is.key,
+      weighted_again (record { pattern = pattern; queue = Some queue }, weight) is.weight,
+    )
+    refl)
 
-pub plus_means : (from to : List ℕ) (inc to_inc number : ℕ) (are : AreDigits inc to_inc number) (weighted : Weighted) (behind : List (List ℕ)) → AreEnds from to inc to_inc number → 1 ≤ number → IsWeighted weighted → SpellsWeight weighted.0.queue weighted.1 behind
-    → plus_line (common_with from to inc to_inc number are) (codes "$G" ∷ weighted.0.pattern ∷ behind) ≡ Ok (line_spelt from to inc to_inc number (said.Plus weighted))
-plus_means from to inc to_inc number are weighted behind ends some is spelt = plus_by from to inc to_inc number are weighted.0.pattern weighted.0.queue weighted.1 behind ends some is spelt
+pub plus_means : (from to : List ℕ) (inc to_inc number : ℕ) (are : AreDigits inc to_inc number) (weighted : Weighted)
+    (behind : List (List ℕ))
+    → AreEnds from to inc to_inc number
+    → 1 ≤ number
+    → IsWeighted weighted
+    → SpellsWeight weighted.0.queue weighted.1 behind
+    → plus_line (common_with from to inc to_inc number are) (codes "$G" ∷ weighted.0.pattern ∷ behind)
+    ≡ Ok (line_spelt from to inc to_inc number (said.Plus weighted))
+plus_means from to inc to_inc number are weighted behind ends some is spelt =
+    plus_by from to inc to_inc number are weighted.0.pattern weighted.0.queue weighted.1 behind ends some is spelt
 
 -- ---- RS-
 
-minus_by : (from to : List ℕ) (inc to_inc number : ℕ) (are : AreDigits inc to_inc number) (pattern : List ℕ) (queue : Option (List ℕ)) → AreEnds from to inc to_inc number → 1 ≤ number → IsKey (record { pattern = pattern; queue = queue })
-    → minus_line (common_with from to inc to_inc number are) (codes "$G" ∷ pattern ∷ option_to_list queue) ≡ Ok (line_spelt from to inc to_inc number (said.Minus (record { pattern = pattern; queue = queue })))
+minus_by : (from to : List ℕ) (inc to_inc number : ℕ) (are : AreDigits inc to_inc number) (pattern : List ℕ)
+    (queue : Option (List ℕ))
+    → AreEnds from to inc to_inc number
+    → 1 ≤ number
+    → IsKey (record { pattern = pattern; queue = queue })
+    → minus_line (common_with from to inc to_inc number are) (codes "$G" ∷ pattern ∷ option_to_list queue)
+    ≡ Ok (line_spelt from to inc to_inc number (said.Minus (record { pattern = pattern; queue = queue })))
 unfolding minus_line
 minus_by from to inc to_inc number are pattern None ends some is =
-    rw (numbers_mean from to inc to_inc number are, in_range_again 1 inc to_inc number ends.life ends.other_life some ends.most, name_again node_name_fault from ends.sender, name_again node_name_fault to ends.receiver, key_again (record { pattern = pattern; queue = None }) is) refl
+    rw (
+      numbers_mean from to inc to_inc number are,
+      in_range_again 1 inc to_inc number ends.life ends.other_life some ends.most,
+      name_again node_name_fault from ends.sender,
+      name_again node_name_fault to ends.receiver,
+      key_again (record { pattern = pattern; queue = None }) is,
+    )
+    refl
 minus_by from to inc to_inc number are pattern (Some queue) ends some is =
-    rw (numbers_mean from to inc to_inc number are, in_range_again 1 inc to_inc number ends.life ends.other_life some ends.most, name_again node_name_fault from ends.sender, name_again node_name_fault to ends.receiver, key_again (record { pattern = pattern; queue = Some queue }) is) refl
+    rw (
+      numbers_mean from to inc to_inc number are,
+      in_range_again 1 inc to_inc number ends.life ends.other_life some ends.most,
+      name_again node_name_fault from ends.sender,
+      name_again node_name_fault to ends.receiver,
+      key_again (record { pattern = pattern; queue = Some queue }) is,
+    )
+    refl
 
-pub minus_means : (from to : List ℕ) (inc to_inc number : ℕ) (are : AreDigits inc to_inc number) (key : Key) → AreEnds from to inc to_inc number → 1 ≤ number → IsKey key
-    → minus_line (common_with from to inc to_inc number are) (codes "$G" ∷ key.pattern ∷ option_to_list key.queue) ≡ Ok (line_spelt from to inc to_inc number (said.Minus key))
-minus_means from to inc to_inc number are key ends some is = minus_by from to inc to_inc number are key.pattern key.queue ends some is
+pub minus_means : (from to : List ℕ) (inc to_inc number : ℕ) (are : AreDigits inc to_inc number) (key : Key)
+    → AreEnds from to inc to_inc number
+    → 1 ≤ number
+    → IsKey key
+    → minus_line (common_with from to inc to_inc number are) (codes "$G" ∷ key.pattern ∷ option_to_list key.queue)
+    ≡ Ok (line_spelt from to inc to_inc number (said.Minus key))
+minus_means from to inc to_inc number are key ends some is =
+    minus_by from to inc to_inc number are key.pattern key.queue ends some is
 
 -- ---- RSS
 
-pub snapshot_means : (from to : List ℕ) (inc to_inc number : ℕ) (are : AreDigits inc to_inc number) (digits : List ℕ) (size : ℕ) → AreEnds from to inc to_inc number → size ≤ MAX_SNAPSHOT → IsNumber SIZE_DIGITS digits size
-    → snapshot_line (common_with from to inc to_inc number are) (digits ∷ []) ≡ Ok (line_spelt from to inc to_inc number (said.Snapshot size))
+pub snapshot_means : (from to : List ℕ) (inc to_inc number : ℕ) (are : AreDigits inc to_inc number) (digits : List ℕ)
+    (size : ℕ)
+    → AreEnds from to inc to_inc number
+    → size ≤ MAX_SNAPSHOT
+    → IsNumber SIZE_DIGITS digits size
+    → snapshot_line (common_with from to inc to_inc number are) (digits ∷ [])
+    ≡ Ok (line_spelt from to inc to_inc number (said.Snapshot size))
 unfolding snapshot_line
 snapshot_means from to inc to_inc number are digits size ends short spelt =
-    rw (numbers_mean from to inc to_inc number are, digits_mean SIZE_DIGITS digits size spelt, in_range_again 0 inc to_inc number ends.life ends.other_life (omega arith) ends.most, within_again 0 MAX_SNAPSHOT size (omega arith) short, name_again node_name_fault from ends.sender, name_again node_name_fault to ends.receiver) refl
+    rw (
+      numbers_mean from to inc to_inc number are,
+      digits_mean SIZE_DIGITS digits size spelt,
+      in_range_again 0 inc to_inc number ends.life ends.other_life (omega arith) ends.most,
+      within_again 0 MAX_SNAPSHOT size (omega arith) short,
+      name_again node_name_fault from ends.sender,
+      name_again node_name_fault to ends.receiver,
+    )
+    refl
 
 -- ---- RMSG and RHMSG
 
@@ -106,14 +192,43 @@ abbrev pub HeadersAre : Option (List ℕ) → Option ℕ → Type 0
 HeadersAre None headers = headers ≡ None
 HeadersAre (Some digits) headers = (n : ℕ) × (headers ≡ Some n) × IsNumber SIZE_DIGITS digits n
 
-headers_mean : (digits : Option (List ℕ)) (headers : Option ℕ) → HeadersAre digits headers → header_digits digits ≡ Ok headers
+headers_mean : (digits : Option (List ℕ)) (headers : Option ℕ)
+    → HeadersAre digits headers
+    → header_digits digits ≡ Ok headers
 headers_mean None headers is = ap (λ headers. Ok headers) (sym is)
-headers_mean (Some digits) headers is = ap (λ read. read >>= λ n. Ok (Some n)) (digits_mean SIZE_DIGITS digits is.0 is.2) ∙ ap (λ headers. Ok headers) (sym is.1)
+headers_mean (Some digits) headers is =
+    ap (λ read. read >>= λ n. Ok (Some n)) (digits_mean SIZE_DIGITS digits is.0 is.2)
+    ∙ ap (λ headers. Ok headers) (sym is.1)
 
-pub publication_means : (from to : List ℕ) (inc to_inc number : ℕ) (are : AreDigits inc to_inc number) (found : Option MessageFields) (headers : Option (List ℕ)) (digits : List ℕ) (message : Content) (queues : List (List ℕ)) → AreEnds from to inc to_inc number → 1 ≤ number → IsMessage message queues
-    → found ≡ Some (fields_spelt (codes "$G") message.subject message.reply queues headers digits) → HeadersAre headers (header_size message) → IsNumber SIZE_DIGITS digits (length (body_of message))
-    → publication_line (common_with from to inc to_inc number are) found ≡ Ok (line_spelt from to inc to_inc number (said.Msg message.subject message.reply queues (header_size message) (length (body_of message))))
+pub publication_means : (from to : List ℕ) (inc to_inc number : ℕ) (are : AreDigits inc to_inc number)
+    (found : Option MessageFields) (headers : Option (List ℕ)) (digits : List ℕ) (message : Content)
+    (queues : List (List ℕ))
+    → AreEnds from to inc to_inc number
+    → 1 ≤ number
+    → IsMessage message queues
+    → found ≡ Some (fields_spelt (codes "$G") message.subject message.reply queues headers digits)
+    → HeadersAre headers (header_size message)
+    → IsNumber SIZE_DIGITS digits (length (body_of message))
+    → publication_line (common_with from to inc to_inc number are) found
+    ≡ Ok (line_spelt from to inc to_inc number
+    (said.Msg message.subject message.reply queues (header_size message) (length (body_of message))))
 unfolding publication_line
-publication_means from to inc to_inc number are found headers digits message queues ends some is fields_are headers_are spelt =
+publication_means from to inc to_inc number are found headers digits message queues ends some is fields_are headers_are
+    spelt =
     let size = length (body_of message) in
-    rw (few_again found (fields_spelt (codes "$G") message.subject message.reply queues headers digits) fields_are is.ordered, numbers_mean from to inc to_inc number are, digits_mean SIZE_DIGITS digits size spelt, headers_mean headers (header_size message) headers_are, in_range_again 1 inc to_inc number ends.life ends.other_life some ends.most, within_again 0 MAX_PAYLOAD size (omega arith) is.body, headers_again message.headers message.payload is.headers, name_again node_name_fault from ends.sender, name_again node_name_fault to ends.receiver, name_again subject_fault message.subject is.subject, reply_again message.reply is.reply, queues_again queues is.names is.ordered) refl
+    rw (
+      few_again found (fields_spelt (codes "$G") message.subject message.reply queues headers digits) fields_are
+          is.ordered,
+      numbers_mean from to inc to_inc number are,
+      digits_mean SIZE_DIGITS digits size spelt,
+      headers_mean headers (header_size message) headers_are,
+      in_range_again 1 inc to_inc number ends.life ends.other_life some ends.most,
+      within_again 0 MAX_PAYLOAD size (omega arith) is.body,
+      headers_again message.headers message.payload is.headers,
+      name_again node_name_fault from ends.sender,
+      name_again node_name_fault to ends.receiver,
+      name_again subject_fault message.subject is.subject,
+      reply_again message.reply is.reply,
+      queues_again queues is.names is.ordered,
+    )
+    refl

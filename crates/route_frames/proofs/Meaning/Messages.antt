@@ -25,28 +25,51 @@ use Rattle.route_frames.proofs.Meaning.Parts.{name_again, within_again}
 -- ---- the form
 
 abbrev pub fields_spelt : List ℕ → List ℕ → Option (List ℕ) → List (List ℕ) → Option (List ℕ) → List ℕ → MessageFields
-fields_spelt account subject reply names headers size = record { account = account; subject = subject; headers = headers; form = record { reply = reply; names = names; size = size } }
+fields_spelt account subject reply names headers size = record {
+  account = account;
+  subject = subject;
+  headers = headers;
+  form = record { reply = reply; names = names; size = size };
+}
 
-pub plain_again : (account subject : List ℕ) (reply : Option (List ℕ)) (names : List (List ℕ)) (size : List ℕ) → message_fields (account ∷ subject ∷ (form_fields reply names ++ size ∷ [])) ≡ Some (fields_spelt account subject reply names None size)
+pub plain_again : (account subject : List ℕ) (reply : Option (List ℕ)) (names : List (List ℕ)) (size : List ℕ)
+    → message_fields (account ∷ subject ∷ (form_fields reply names ++ size ∷ []))
+    ≡ Some (fields_spelt account subject reply names None size)
 plain_again account subject None [] size = refl
 plain_again account subject (Some reply) [] size = refl
-plain_again account subject None (name ∷ names) size = ap (λ split. message_form account subject (form_split (codes "|") split)) (split_last-append (name ∷ names) size)
-plain_again account subject (Some reply) (name ∷ names) size = ap (λ split. message_form account subject (form_split (codes "+") split)) (split_last-append (reply ∷ name ∷ names) size)
+plain_again account subject None (name ∷ names) size =
+    ap (λ split. message_form account subject (form_split (codes "|") split)) (split_last-append (name ∷ names) size)
+plain_again account subject (Some reply) (name ∷ names) size =
+    ap (λ split. message_form account subject (form_split (codes "+") split))
+    (split_last-append (reply ∷ name ∷ names) size)
 
 pub headed_again : (account subject : List ℕ) (reply : Option (List ℕ)) (names : List (List ℕ)) (headers size : List ℕ)
-    → header_fields (account ∷ subject ∷ (form_fields reply names ++ headers ∷ size ∷ [])) ≡ Some (fields_spelt account subject reply names (Some headers) size)
+    → header_fields (account ∷ subject ∷ (form_fields reply names ++ headers ∷ size ∷ []))
+    ≡ Some (fields_spelt account subject reply names (Some headers) size)
 headed_again account subject reply names headers size =
     let front : List (List ℕ) = account ∷ subject ∷ (form_fields reply names ++ headers ∷ []) in
-    let whole : account ∷ subject ∷ (form_fields reply names ++ headers ∷ size ∷ []) ≡ front ++ size ∷ [] = ap (λ behind. account ∷ subject ∷ behind) (sym (append_assoc (form_fields reply names) (headers ∷ []) (size ∷ []))) in
-    ap header_fields whole ∙ ap total_behind (split_last-append front size) ∙ ap (option_map (with_total size)) (plain_again account subject reply names headers)
+    let whole : account ∷ subject ∷ (form_fields reply names ++ headers ∷ size ∷ []) ≡ front ++ size ∷ [] =
+    ap (λ behind. account ∷ subject ∷ behind)
+    (sym (append_assoc (form_fields reply names) (headers ∷ []) (size ∷ []))) in
+    ap header_fields whole
+    ∙ ap total_behind (split_last-append front size)
+    ∙ ap (option_map (with_total size)) (plain_again account subject reply names headers)
 
-few : (count : ℕ) (fits rising above : Bool) → nat_le count MAX_QUEUE_NAMES ≡ fits → nat_lt MAX_QUEUE_NAMES count ≡ above → (fits && rising) ≡ true → above ≡ false
+few : (count : ℕ) (fits rising above : Bool)
+    → nat_le count MAX_QUEUE_NAMES ≡ fits
+    → nat_lt MAX_QUEUE_NAMES count ≡ above
+    → (fits && rising) ≡ true
+    → above ≡ false
 few count fits rising above f a is = grind (arith, nat_tests)
 
-pub few_again : (found : Option MessageFields) (fields : MessageFields) → found ≡ Some fields → are_queue_names fields.form.names ≡ true → few_fields found ≡ Ok fields
+pub few_again : (found : Option MessageFields) (fields : MessageFields)
+    → found ≡ Some fields
+    → are_queue_names fields.form.names ≡ true
+    → few_fields found ≡ Ok fields
 unfolding few_fields
 few_again found fields is are =
-    rw is (ap (λ b. cond b (Err TooManyQueues) (Ok fields)) (few (length fields.form.names) _ (are_rising fields.form.names) _ refl refl are))
+    rw is (ap (λ b. cond b (Err TooManyQueues) (Ok fields))
+    (few (length fields.form.names) _ (are_rising fields.form.names) _ refl refl are))
 
 -- ---- the header block
 
@@ -55,30 +78,50 @@ at_least all behind is = let len = ap length is ∙ length-append header_start b
 
 -- a block has as many bytes as it has to begin with
 pub block_long : (block : List ℕ) → is_block block ≡ true → length header_start ≤ length block
-block_long block is = at_least block (drop (length header_start) block) ((starts_is Decides-eqb block header_start (is_block block) refl).0 is)
+block_long block is =
+    at_least block (drop (length header_start) block)
+    ((starts_is Decides-eqb block header_start (is_block block) refl).0 is)
 
-pub headers_again : (headers : Option (List ℕ)) (payload : List ℕ) → are_headers headers ≡ true → headers_within (length (body_bytes headers payload)) (option_map (λ block. length block) headers) ≡ Ok (option_map (λ block. length block) headers)
+pub headers_again : (headers : Option (List ℕ)) (payload : List ℕ)
+    → are_headers headers ≡ true
+    → headers_within (length (body_bytes headers payload)) (option_map (λ block. length block) headers)
+    ≡ Ok (option_map (λ block. length block) headers)
 headers_again None payload is = refl
 headers_again (Some block) payload is =
     let len = length-append block payload in
-    let fits = within_again (length header_start) (length (block ++ payload)) (length block) (block_long block is) (omega (arith, len)) in
+    let fits = within_again (length header_start) (length (block ++ payload)) (length block) (block_long block is)
+    (omega (arith, len)) in
     ap (λ read. read >>= λ headers. Ok (Some headers)) fits
 
 -- it and the payload behind it are found again
 there : (block payload : List ℕ) → nat_le (length block) (length (block ++ payload)) ≡ true
-there block payload = let len = length-append block payload in le-leb (length block) (length (block ++ payload)) (omega (arith, len))
+there block payload =
+    let len = length-append block payload in le-leb (length block) (length (block ++ payload)) (omega (arith, len))
 
-pub body_again : (headers : Option (List ℕ)) (payload : List ℕ) → are_headers headers ≡ true → length (body_bytes headers payload) ≤ MAX_PAYLOAD
-    → body_in (option_map (λ block. length block) headers) (body_bytes headers payload) ≡ Some (record { headers = headers; payload = payload })
-body_again None payload is short = ap (λ b. cond b (Some (record { headers = None; payload = payload })) None) (le-leb (length payload) MAX_PAYLOAD short)
+pub body_again : (headers : Option (List ℕ)) (payload : List ℕ)
+    → are_headers headers ≡ true
+    → length (body_bytes headers payload) ≤ MAX_PAYLOAD
+    → body_in (option_map (λ block. length block) headers) (body_bytes headers payload)
+    ≡ Some (record { headers = headers; payload = payload })
+body_again None payload is short =
+    ap (λ b. cond b (Some (record { headers = None; payload = payload })) None)
+    (le-leb (length payload) MAX_PAYLOAD short)
 body_again (Some block) payload is short =
-    ap (λ b. cond b (new_body (Some (take (length block) (block ++ payload))) (drop (length block) (block ++ payload))) None) (there block payload)
+    ap (λ b.
+    cond b (new_body (Some (take (length block) (block ++ payload))) (drop (length block) (block ++ payload))) None)
+    (there block payload)
     ∙ ap (λ front. new_body (Some front) (drop (length block) (block ++ payload))) (take_front block payload)
     ∙ ap (new_body (Some block)) (drop_front block payload)
-    ∙ ap (λ b. cond (b && nat_le (length (block ++ payload)) MAX_PAYLOAD) (Some (record { headers = Some block; payload = payload })) None) is
-    ∙ ap (λ b. cond b (Some (record { headers = Some block; payload = payload })) None) (le-leb (length (block ++ payload)) MAX_PAYLOAD short)
+    ∙ ap (λ b.
+    cond (b && nat_le (length (block ++ payload)) MAX_PAYLOAD)
+    (Some (record { headers = Some block; payload = payload })) None)
+    is
+    ∙ ap (λ b. cond b (Some (record { headers = Some block; payload = payload })) None)
+    (le-leb (length (block ++ payload)) MAX_PAYLOAD short)
 
-pub block_again : (headers : Option (List ℕ)) (payload : List ℕ) → are_headers headers ≡ true → block_meaning (option_map (λ block. length block) headers) (body_bytes headers payload) ≡ Ok tt
+pub block_again : (headers : Option (List ℕ)) (payload : List ℕ)
+    → are_headers headers ≡ true
+    → block_meaning (option_map (λ block. length block) headers) (body_bytes headers payload) ≡ Ok tt
 block_again None payload is = refl
 block_again (Some block) payload is =
     ap (λ b. cond (b && is_block (take (length block) (block ++ payload))) (Ok tt) (Err BadArgs)) (there block payload)
@@ -91,7 +134,10 @@ names_again : (names : List (List ℕ)) → AreNames names → are_names names �
 names_again [] is = refl
 names_again (name ∷ names) is = rw (name_again queue_name_fault name is.0, names_again names is.1) refl
 
-pub queues_again : (names : List (List ℕ)) → AreNames names → are_queue_names names ≡ true → queue_names_in names ≡ Ok names
+pub queues_again : (names : List (List ℕ))
+    → AreNames names
+    → are_queue_names names ≡ true
+    → queue_names_in names ≡ Ok names
 unfolding queue_names_in
 queues_again names is are = rw (names_again names is) (ap (λ b. ok_or (cond b (Some names) None) BadArgs) are)
 

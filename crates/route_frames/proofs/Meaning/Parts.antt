@@ -21,9 +21,16 @@ use Rattle.subj.specs.declared.faults.NameFault.{NameFault}
 -- ---- numbers
 
 pub within_again : (least most n : ℕ) → least ≤ n → n ≤ most → within least most n ≡ Ok n
-within_again least most n low high = ap (λ b. cond (b && nat_le n most) (Ok n) (Err BadNumber)) (le-leb least n low) ∙ ap (λ b. cond b (Ok n) (Err BadNumber)) (le-leb n most high)
+within_again least most n low high =
+    ap (λ b. cond (b && nat_le n most) (Ok n) (Err BadNumber)) (le-leb least n low)
+    ∙ ap (λ b. cond b (Ok n) (Err BadNumber)) (le-leb n most high)
 
-inc_test : (n : ℕ) (zero above : Bool) → nat_eq n 0 ≡ zero → nat_lt MAX_INCARNATION n ≡ above → 1 ≤ n → n ≤ MAX_INCARNATION → (zero || above) ≡ false
+inc_test : (n : ℕ) (zero above : Bool)
+    → nat_eq n 0 ≡ zero
+    → nat_lt MAX_INCARNATION n ≡ above
+    → 1 ≤ n
+    → n ≤ MAX_INCARNATION
+    → (zero || above) ≡ false
 inc_test n zero above z a low high = grind (arith, nat_tests)
 
 pub incarnation_again : (n : ℕ) → IsIncarnation n → ok_or (incarnation_of n) BadNumber ≡ Ok n
@@ -35,7 +42,12 @@ digits_spelt inc to_inc number = record { inc = inc; to_inc = to_inc; number = n
 abbrev pub numbers_spelt : ℕ → ℕ → ℕ → Numbers
 numbers_spelt inc to_inc number = record { inc = inc; to_inc = to_inc; number = number }
 
-pub in_range_again : (least inc to_inc number : ℕ) → IsIncarnation inc → IsIncarnation to_inc → least ≤ number → number ≤ MAX_COUNTER → numbers_in_range least (digits_spelt inc to_inc number) ≡ Ok (numbers_spelt inc to_inc number)
+pub in_range_again : (least inc to_inc number : ℕ)
+    → IsIncarnation inc
+    → IsIncarnation to_inc
+    → least ≤ number
+    → number ≤ MAX_COUNTER
+    → numbers_in_range least (digits_spelt inc to_inc number) ≡ Ok (numbers_spelt inc to_inc number)
 unfolding numbers_in_range
 in_range_again least inc to_inc number is is_too low high =
     rw (incarnation_again inc is, incarnation_again to_inc is_too, within_again least MAX_COUNTER number low high) refl
@@ -47,11 +59,14 @@ name_again fault name is = ap (λ found. cond (is_some found) (Err BadArgs) (Ok 
 
 optional_queue_again : (queue : Option (List ℕ)) → IsQueue queue → optional (name_of queue_name_fault) queue ≡ Ok queue
 optional_queue_again None is = refl
-optional_queue_again (Some queue) is = ap (λ read. read >>= λ value. Ok (Some value)) (name_again queue_name_fault queue is)
+optional_queue_again (Some queue) is =
+    ap (λ read. read >>= λ value. Ok (Some value)) (name_again queue_name_fault queue is)
 
 pub key_again : (key : Key) → IsKey key → key_of key.pattern key.queue ≡ Ok key
 unfolding key_of
 key_again key is = rw (name_again pattern_fault key.pattern is.pattern, optional_queue_again key.queue is.queue) refl
 
-pub weighted_again : (weighted : Weighted) → is_weight weighted.0 weighted.1 ≡ true → ok_or (weighted_key weighted.0 weighted.1) BadArgs ≡ Ok weighted
+pub weighted_again : (weighted : Weighted)
+    → is_weight weighted.0 weighted.1 ≡ true
+    → ok_or (weighted_key weighted.0 weighted.1) BadArgs ≡ Ok weighted
 weighted_again weighted is = ap (λ b. ok_or (cond b (Some weighted) None) BadArgs) is

@@ -14,7 +14,10 @@ Agrees None (Err fault) = fault ≡ BadArgs
 -- ---- steps
 
 -- a step with these causes, and then others that have none
-pub agrees_then : {A B : Type 0} (cause : Option RouteFault) (step : Meaning A) (next : A → Meaning B) → Agrees cause step → ((x : A) → Agrees None (next x)) → Agrees cause (step >>= next)
+pub agrees_then : {A B : Type 0} (cause : Option RouteFault) (step : Meaning A) (next : A → Meaning B)
+    → Agrees cause step
+    → ((x : A) → Agrees None (next x))
+    → Agrees cause (step >>= next)
 agrees_then (Some cause) step next is others = ap (λ read. read >>= next) is
 agrees_then None (Ok x) next is others = others x
 agrees_then None (Err fault) next is others = is
@@ -32,6 +35,9 @@ refused_unless true x = tt
 refused_unless false x = refl
 
 -- fields of a certain number, and then what they say
-pub fields_agree : {F B : Type 0} (cause : Option F → Option RouteFault) (fields : Option F) (next : F → Meaning B) → cause None ≡ Some BadArgs → ((fields : F) → Agrees (cause (Some fields)) (next fields)) → Agrees (cause fields) (ok_or fields BadArgs >>= next)
+pub fields_agree : {F B : Type 0} (cause : Option F → Option RouteFault) (fields : Option F) (next : F → Meaning B)
+    → cause None ≡ Some BadArgs
+    → ((fields : F) → Agrees (cause (Some fields)) (next fields))
+    → Agrees (cause fields) (ok_or fields BadArgs >>= next)
 fields_agree cause None next none each = rw none refl
 fields_agree cause (Some fields) next none each = each fields

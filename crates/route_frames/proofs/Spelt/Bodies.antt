@@ -35,23 +35,42 @@ plus_shape : (fields : List (List ℕ)) (found : PlusFields) → plus_fields fie
 plus_shape [] found e = absurd (cc)
 plus_shape (account ∷ []) found e = absurd (cc)
 plus_shape (account ∷ pattern ∷ []) found e =
-    subst (PlusShape (account ∷ pattern ∷ [])) (some_same (record { account = account; pattern = pattern; queue = None; weight = None }) found e) (record { behind = []; whole = refl; are = refl })
+    subst (PlusShape (account ∷ pattern ∷ []))
+    (some_same (record { account = account; pattern = pattern; queue = None; weight = None }) found e)
+    (record { behind = []; whole = refl; are = refl })
 plus_shape (account ∷ pattern ∷ queue ∷ []) found e = absurd (cc)
 plus_shape (account ∷ pattern ∷ queue ∷ weight ∷ []) found e =
-    subst (PlusShape (account ∷ pattern ∷ queue ∷ weight ∷ [])) (some_same (record { account = account; pattern = pattern; queue = Some queue; weight = Some weight }) found e) (record { behind = queue ∷ weight ∷ []; whole = refl; are = refl })
+    subst (PlusShape (account ∷ pattern ∷ queue ∷ weight ∷ []))
+    (some_same (record { account = account; pattern = pattern; queue = Some queue; weight = Some weight }) found e)
+    (record { behind = queue ∷ weight ∷ []; whole = refl; are = refl })
 plus_shape (account ∷ pattern ∷ queue ∷ weight ∷ other ∷ others) found e = absurd (cc)
 
-weight_spelt : (queue weight : Option (List ℕ)) (behind : List (List ℕ)) (n : ℕ) → AreBehind queue weight behind → weight_digits weight ≡ Ok n → SpellsWeight queue n behind
+weight_spelt : (queue weight : Option (List ℕ)) (behind : List (List ℕ)) (n : ℕ)
+    → AreBehind queue weight behind
+    → weight_digits weight ≡ Ok n
+    → SpellsWeight queue n behind
 weight_spelt None None behind n are e = are
 weight_spelt None (Some weight) behind n are e = absurd are
 weight_spelt (Some queue) None behind n are e = absurd are
 weight_spelt (Some queue) (Some weight) behind n are e = (weight, are, digits_ok WEIGHT_DIGITS weight n e)
 
-plus_spelt : (fields behind : List (List ℕ)) (account pattern : List ℕ) (queue weight : Option (List ℕ)) (key : Key) (n m : ℕ)
-    → fields ≡ account ∷ pattern ∷ behind → AreBehind queue weight behind → account ≡ codes "$G" → KeyIs pattern queue key → weight_digits weight ≡ Ok n → n ≡ m → SpellsPlus (key, m) fields
+plus_spelt : (fields behind : List (List ℕ)) (account pattern : List ℕ) (queue weight : Option (List ℕ)) (key : Key)
+    (n m : ℕ)
+    → fields ≡ account ∷ pattern ∷ behind
+    → AreBehind queue weight behind
+    → account ≡ codes "$G"
+    → KeyIs pattern queue key
+    → weight_digits weight ≡ Ok n
+    → n ≡ m
+    → SpellsPlus (key, m) fields
 plus_spelt fields behind account pattern queue weight key n m whole are global is spelt same =
-    let front : account ∷ pattern ∷ behind ≡ codes "$G" ∷ key.pattern ∷ behind = ap (λ a. a ∷ pattern ∷ behind) global ∙ ap (λ p. codes "$G" ∷ p ∷ behind) is.pattern_same in
-    (behind, whole ∙ front, subst (λ q. SpellsWeight q m behind) is.queue_same (subst (λ n. SpellsWeight queue n behind) same (weight_spelt queue weight behind n are spelt)))
+    let front : account ∷ pattern ∷ behind ≡ codes "$G" ∷ key.pattern ∷ behind =
+    ap (λ a. a ∷ pattern ∷ behind) global ∙ ap (λ p. codes "$G" ∷ p ∷ behind) is.pattern_same in (
+      behind,
+      whole ∙ front,
+      subst (λ q. SpellsWeight q m behind) is.queue_same
+          (subst (λ n. SpellsWeight queue n behind) same (weight_spelt queue weight behind n are spelt)),
+    )
 
 pub record PlusRead (common : CommonFields) (fields : List (List ℕ)) (line : NumberedLine) : Type 0 where
   pub says_common : CommonIs common 1 line
@@ -60,7 +79,9 @@ pub record PlusRead (common : CommonFields) (fields : List (List ℕ)) (line : N
   pub spells : SpellsPlus weighted fields
   pub valid : IsWeighted weighted
 
-pub plus_read : (common : CommonFields) (fields : List (List ℕ)) (line : NumberedLine) → plus_line common fields ≡ Ok line → PlusRead common fields line
+pub plus_read : (common : CommonFields) (fields : List (List ℕ)) (line : NumberedLine)
+    → plus_line common fields ≡ Ok line
+    → PlusRead common fields line
 unfolding plus_line
 plus_read common fields line e =
     let found = step_ok (ok_or (plus_fields fields) BadArgs) _ line e in
@@ -73,34 +94,50 @@ plus_read common fields line e =
     let to = step_ok (name_of node_name_fault common.to) _ line from.2 in
     let key = step_ok (key_of (found.0).pattern (found.0).queue) _ line to.2 in
     let weighted = step_ok (ok_or (weighted_key key.0 weight.0) BadArgs) _ line key.2 in
-    let same = ok_same (record { from = from.0; to = to.0; numbers = numbers.0; body = said.Plus weighted.0 }) line weighted.2 in
+    let same =
+    ok_same (record { from = from.0; to = to.0; numbers = numbers.0; body = said.Plus weighted.0 }) line weighted.2 in
     let shape = plus_shape fields found.0 (found_ok (plus_fields fields) BadArgs found.0 found.1) in
     let key_is = key_ok (found.0).pattern (found.0).queue key.0 key.1 in
     let weighs = weighted_ok key.0 weight.0 weighted.0 weighted.1 in
     let in_range = within_ok 1 MAX_WEIGHT spelt.0 weight.0 weight.1 in
     subst (PlusRead common fields) same (record {
-      says_common = common_is common 1 digits.0 numbers.0 from.0 to.0 (said.Plus weighted.0) digits.1 numbers.1 from.1 to.1;
+      says_common =
+          common_is common 1 digits.0 numbers.0 from.0 to.0 (said.Plus weighted.0) digits.1 numbers.1 from.1 to.1;
       weighted = weighted.0;
       is_body = refl;
-      spells = subst (λ weighted. SpellsPlus weighted fields) weighs.1 (plus_spelt fields shape.behind (found.0).account (found.0).pattern (found.0).queue (found.0).weight key.0 spelt.0 weight.0 shape.whole shape.are (account_ok (found.0).account account.0 account.1) key_is spelt.1 in_range.same);
+      spells =
+          subst (λ weighted. SpellsPlus weighted fields) weighs.1
+          (plus_spelt fields shape.behind (found.0).account (found.0).pattern (found.0).queue (found.0).weight key.0
+          spelt.0 weight.0 shape.whole shape.are (account_ok (found.0).account account.0 account.1) key_is spelt.1
+          in_range.same);
       valid = subst IsWeighted weighs.1 (record { key = key_is.valid; weight = weighs.0 });
     })
 
 -- ---- RS-
 
-minus_shape : (fields : List (List ℕ)) (found : MinusFields) → minus_fields fields ≡ Some found → fields ≡ found.account ∷ found.pattern ∷ option_to_list found.queue
+minus_shape : (fields : List (List ℕ)) (found : MinusFields)
+    → minus_fields fields ≡ Some found
+    → fields ≡ found.account ∷ found.pattern ∷ option_to_list found.queue
 minus_shape [] found e = absurd (cc)
 minus_shape (account ∷ []) found e = absurd (cc)
 minus_shape (account ∷ pattern ∷ []) found e =
-    subst (λ found. account ∷ pattern ∷ [] ≡ found.account ∷ found.pattern ∷ option_to_list found.queue) (some_same (record { account = account; pattern = pattern; queue = None }) found e) refl
+    subst (λ found. account ∷ pattern ∷ [] ≡ found.account ∷ found.pattern ∷ option_to_list found.queue)
+    (some_same (record { account = account; pattern = pattern; queue = None }) found e) refl
 minus_shape (account ∷ pattern ∷ queue ∷ []) found e =
-    subst (λ found. account ∷ pattern ∷ queue ∷ [] ≡ found.account ∷ found.pattern ∷ option_to_list found.queue) (some_same (record { account = account; pattern = pattern; queue = Some queue }) found e) refl
+    subst (λ found. account ∷ pattern ∷ queue ∷ [] ≡ found.account ∷ found.pattern ∷ option_to_list found.queue)
+    (some_same (record { account = account; pattern = pattern; queue = Some queue }) found e) refl
 minus_shape (account ∷ pattern ∷ queue ∷ other ∷ others) found e = absurd (cc)
 
-minus_spelt : (fields : List (List ℕ)) (account pattern : List ℕ) (queue : Option (List ℕ)) (key : Key) → fields ≡ account ∷ pattern ∷ option_to_list queue → account ≡ codes "$G" → KeyIs pattern queue key
+minus_spelt : (fields : List (List ℕ)) (account pattern : List ℕ) (queue : Option (List ℕ)) (key : Key)
+    → fields ≡ account ∷ pattern ∷ option_to_list queue
+    → account ≡ codes "$G"
+    → KeyIs pattern queue key
     → fields ≡ codes "$G" ∷ key.pattern ∷ option_to_list key.queue
 minus_spelt fields account pattern queue key whole global is =
-    whole ∙ ap (λ a. a ∷ pattern ∷ option_to_list queue) global ∙ ap (λ p. codes "$G" ∷ p ∷ option_to_list queue) is.pattern_same ∙ ap (λ q. codes "$G" ∷ key.pattern ∷ option_to_list q) is.queue_same
+    whole
+    ∙ ap (λ a. a ∷ pattern ∷ option_to_list queue) global
+    ∙ ap (λ p. codes "$G" ∷ p ∷ option_to_list queue) is.pattern_same
+    ∙ ap (λ q. codes "$G" ∷ key.pattern ∷ option_to_list q) is.queue_same
 
 pub record MinusRead (common : CommonFields) (fields : List (List ℕ)) (line : NumberedLine) : Type 0 where
   pub says_common : CommonIs common 1 line
@@ -109,7 +146,9 @@ pub record MinusRead (common : CommonFields) (fields : List (List ℕ)) (line : 
   pub spells : fields ≡ codes "$G" ∷ key.pattern ∷ option_to_list key.queue
   pub valid : IsKey key
 
-pub minus_read : (common : CommonFields) (fields : List (List ℕ)) (line : NumberedLine) → minus_line common fields ≡ Ok line → MinusRead common fields line
+pub minus_read : (common : CommonFields) (fields : List (List ℕ)) (line : NumberedLine)
+    → minus_line common fields ≡ Ok line
+    → MinusRead common fields line
 unfolding minus_line
 minus_read common fields line e =
     let found = step_ok (ok_or (minus_fields fields) BadArgs) _ line e in
@@ -126,7 +165,9 @@ minus_read common fields line e =
       says_common = common_is common 1 digits.0 numbers.0 from.0 to.0 (said.Minus key.0) digits.1 numbers.1 from.1 to.1;
       key = key.0;
       is_body = refl;
-      spells = minus_spelt fields (found.0).account (found.0).pattern (found.0).queue key.0 shape (account_ok (found.0).account account.0 account.1) key_is;
+      spells =
+          minus_spelt fields (found.0).account (found.0).pattern (found.0).queue key.0 shape
+          (account_ok (found.0).account account.0 account.1) key_is;
       valid = key_is.valid;
     })
 
@@ -144,7 +185,9 @@ pub record SnapshotRead (common : CommonFields) (fields : List (List ℕ)) (line
   pub spells : SpellsSize [] size fields
   pub short : size ≤ MAX_SNAPSHOT
 
-pub snapshot_read : (common : CommonFields) (fields : List (List ℕ)) (line : NumberedLine) → snapshot_line common fields ≡ Ok line → SnapshotRead common fields line
+pub snapshot_read : (common : CommonFields) (fields : List (List ℕ)) (line : NumberedLine)
+    → snapshot_line common fields ≡ Ok line
+    → SnapshotRead common fields line
 unfolding snapshot_line
 snapshot_read common fields line e =
     let found = step_ok (ok_or (snapshot_field fields) BadArgs) _ line e in
@@ -154,11 +197,13 @@ snapshot_read common fields line e =
     let size = step_ok (within 0 MAX_SNAPSHOT spelt.0) _ line numbers.2 in
     let from = step_ok (name_of node_name_fault common.from) _ line size.2 in
     let to = step_ok (name_of node_name_fault common.to) _ line from.2 in
-    let same = ok_same (record { from = from.0; to = to.0; numbers = numbers.0; body = said.Snapshot size.0 }) line to.2 in
+    let same =
+    ok_same (record { from = from.0; to = to.0; numbers = numbers.0; body = said.Snapshot size.0 }) line to.2 in
     let shape = snapshot_shape fields found.0 (found_ok (snapshot_field fields) BadArgs found.0 found.1) in
     let in_range = within_ok 0 MAX_SNAPSHOT spelt.0 size.0 size.1 in
     subst (SnapshotRead common fields) same (record {
-      says_common = common_is common 0 digits.0 numbers.0 from.0 to.0 (said.Snapshot size.0) digits.1 numbers.1 from.1 to.1;
+      says_common =
+          common_is common 0 digits.0 numbers.0 from.0 to.0 (said.Snapshot size.0) digits.1 numbers.1 from.1 to.1;
       size = size.0;
       is_body = refl;
       spells = (found.0, shape, digits_ok SIZE_DIGITS found.0 spelt.0 spelt.1 ∙ ap (λ n. Some n) in_range.same);

@@ -5,7 +5,9 @@ use Rattle.std.specs.Option.{ok_or}
 use Rattle.route_frames.specs.declared.faults.RouteFault.{RouteFault}
 use Rattle.route_frames.specs.Meaning.{◌>>=◌}
 
-pub step_ok : {A B : Type 0} (r : Result A RouteFault) (next : A → Result B RouteFault) (y : B) → (r >>= next) ≡ Ok y → (x : A) × (r ≡ Ok x) × (next x ≡ Ok y)
+pub step_ok : {A B : Type 0} (r : Result A RouteFault) (next : A → Result B RouteFault) (y : B)
+    → (r >>= next) ≡ Ok y
+    → (x : A) × (r ≡ Ok x) × (next x ≡ Ok y)
 step_ok (Ok x) next y e = (x, refl, e)
 step_ok (Err fault) next y e = absurd (cc)
 
@@ -19,11 +21,15 @@ pub found_ok : {A : Type 0} (o : Option A) (fault : RouteFault) (x : A) → ok_o
 found_ok None fault x e = absurd (cc)
 found_ok (Some y) fault x e = cc
 
-pub unless_ok : {A : Type 0} (bad : Bool) (fault : RouteFault) (x y : A) → cond bad (Err fault) (Ok x) ≡ Ok y → (bad ≡ false) × (x ≡ y)
+pub unless_ok : {A : Type 0} (bad : Bool) (fault : RouteFault) (x y : A)
+    → cond bad (Err fault) (Ok x) ≡ Ok y
+    → (bad ≡ false) × (x ≡ y)
 unless_ok true fault x y e = absurd (cc)
 unless_ok false fault x y e = (refl, cc)
 
-pub where_ok : {A : Type 0} (good : Bool) (fault : RouteFault) (x y : A) → cond good (Ok x) (Err fault) ≡ Ok y → (good ≡ true) × (x ≡ y)
+pub where_ok : {A : Type 0} (good : Bool) (fault : RouteFault) (x y : A)
+    → cond good (Ok x) (Err fault) ≡ Ok y
+    → (good ≡ true) × (x ≡ y)
 where_ok true fault x y e = (refl, cc)
 where_ok false fault x y e = absurd (cc)
 

@@ -44,7 +44,8 @@ within_ok least most n m e =
     subst (λ m. Within least most n m) good.1 (record { same = refl; low = range.0; high = range.1 })
 
 inc_range : (n : ℕ) → (nat_eq n 0 || nat_lt MAX_INCARNATION n) ≡ false → IsIncarnation n
-inc_range n e = let both : (1 ≤ n) × (n ≤ MAX_INCARNATION) = grind (arith, nat_tests) in record { least = both.0; most = both.1 }
+inc_range n e =
+    let both : (1 ≤ n) × (n ≤ MAX_INCARNATION) = grind (arith, nat_tests) in record { least = both.0; most = both.1 }
 
 inc_by : (bad : Bool) (n m : ℕ) → cond bad None (Some n) ≡ Some m → (bad ≡ false) × (n ≡ m)
 inc_by true n m e = absurd (cc)
@@ -55,12 +56,16 @@ incarnation_ok n m e =
     let good = inc_by (nat_eq n 0 || nat_lt MAX_INCARNATION n) n m (found_ok (incarnation_of n) BadNumber m e) in
     (good.1, subst IsIncarnation good.1 (inc_range n good.0))
 
-pub name_ok : (fault : List ℕ → Option NameFault) (field name : List ℕ) → name_of fault field ≡ Ok name → (field ≡ name) × (fault name ≡ None)
+pub name_ok : (fault : List ℕ → Option NameFault) (field name : List ℕ)
+    → name_of fault field ≡ Ok name
+    → (field ≡ name) × (fault name ≡ None)
 name_ok fault field name e =
     let good = unless_ok (is_some (fault field)) BadArgs field name e in
     (good.1, ap fault (sym good.1) ∙ no_fault (fault field) good.0)
 
-pub optional_queue_ok : (field name : Option (List ℕ)) → optional (name_of queue_name_fault) field ≡ Ok name → (field ≡ name) × IsQueue name
+pub optional_queue_ok : (field name : Option (List ℕ))
+    → optional (name_of queue_name_fault) field ≡ Ok name
+    → (field ≡ name) × IsQueue name
 optional_queue_ok None name e = let same = ok_same None name e in (same, subst IsQueue same tt)
 optional_queue_ok (Some field) name e =
     let step = step_ok (name_of queue_name_fault field) _ name e in
@@ -68,7 +73,9 @@ optional_queue_ok (Some field) name e =
     let same = ap (λ f. Some f) good.0 ∙ ok_same (Some step.0) name step.2 in
     (same, subst IsQueue (ok_same (Some step.0) name step.2) good.1)
 
-pub optional_subject_ok : (field name : Option (List ℕ)) → optional (name_of subject_fault) field ≡ Ok name → (field ≡ name) × IsReply name
+pub optional_subject_ok : (field name : Option (List ℕ))
+    → optional (name_of subject_fault) field ≡ Ok name
+    → (field ≡ name) × IsReply name
 optional_subject_ok None name e = let same = ok_same None name e in (same, subst IsReply same tt)
 optional_subject_ok (Some field) name e =
     let step = step_ok (name_of subject_fault field) _ name e in
@@ -81,7 +88,9 @@ pub record KeyIs (pattern : List ℕ) (queue : Option (List ℕ)) (key : Key) : 
   pub queue_same : queue ≡ key.queue
   pub valid : IsKey key
 
-pub key_ok : (pattern : List ℕ) (queue : Option (List ℕ)) (key : Key) → key_of pattern queue ≡ Ok key → KeyIs pattern queue key
+pub key_ok : (pattern : List ℕ) (queue : Option (List ℕ)) (key : Key)
+    → key_of pattern queue ≡ Ok key
+    → KeyIs pattern queue key
 unfolding key_of
 key_ok pattern queue key e =
     let one = step_ok (name_of pattern_fault pattern) _ key e in
@@ -89,13 +98,18 @@ key_ok pattern queue key e =
     let is = name_ok pattern_fault pattern one.0 one.1 in
     let is_too = optional_queue_ok queue two.0 two.1 in
     let same = ok_same (record { pattern = one.0; queue = two.0 }) key two.2 in
-    subst (λ key. KeyIs pattern queue key) same (record { pattern_same = is.0; queue_same = is_too.0; valid = record { pattern = is.1; queue = is_too.1 } })
+    subst (λ key. KeyIs pattern queue key) same
+    (record { pattern_same = is.0; queue_same = is_too.0; valid = record { pattern = is.1; queue = is_too.1 } })
 
 pub account_ok : (field : List ℕ) (account : Unit {0}) → account_of field ≡ Ok account → field ≡ codes "$G"
-account_ok field account e = (bytes_eq-Decides field (codes "$G")).0 (where_ok (bytes_eq field (codes "$G")) BadArgs tt account e).0
+account_ok field account e =
+    (bytes_eq-Decides field (codes "$G")).0 (where_ok (bytes_eq field (codes "$G")) BadArgs tt account e).0
 
-pub weighted_ok : (key : Key) (weight : ℕ) (weighted : Weighted) → ok_or (weighted_key key weight) BadArgs ≡ Ok weighted → (is_weight key weight ≡ true) × ((key, weight) ≡ weighted)
-weighted_ok key weight weighted e = where_some (is_weight key weight) (key, weight) weighted (found_ok (weighted_key key weight) BadArgs weighted e)
+pub weighted_ok : (key : Key) (weight : ℕ) (weighted : Weighted)
+    → ok_or (weighted_key key weight) BadArgs ≡ Ok weighted
+    → (is_weight key weight ≡ true) × ((key, weight) ≡ weighted)
+weighted_ok key weight weighted e =
+    where_some (is_weight key weight) (key, weight) weighted (found_ok (weighted_key key weight) BadArgs weighted e)
 
 -- ---- the common fields
 
@@ -111,7 +125,11 @@ digits_are common digits e =
     let two = step_ok (digits_of INCARNATION_DIGITS common.to_inc) _ digits one.2 in
     let three = step_ok (digits_of NUMBER_DIGITS common.number) _ digits two.2 in
     let same = ok_same (record { inc = one.0; to_inc = two.0; number = three.0 }) digits three.2 in
-    subst (DigitsAre common) same (record { inc = digits_ok INCARNATION_DIGITS common.inc one.0 one.1; to_inc = digits_ok INCARNATION_DIGITS common.to_inc two.0 two.1; number = digits_ok NUMBER_DIGITS common.number three.0 three.1 })
+    subst (DigitsAre common) same (record {
+      inc = digits_ok INCARNATION_DIGITS common.inc one.0 one.1;
+      to_inc = digits_ok INCARNATION_DIGITS common.to_inc two.0 two.1;
+      number = digits_ok NUMBER_DIGITS common.number three.0 three.1;
+    })
 
 pub record NumbersAre (least : ℕ) (digits : Digits) (numbers : Numbers) : Type 0 where
   pub inc_same : digits.inc ≡ numbers.inc
@@ -122,7 +140,9 @@ pub record NumbersAre (least : ℕ) (digits : Digits) (numbers : Numbers) : Type
   pub low : least ≤ numbers.number
   pub high : numbers.number ≤ MAX_COUNTER
 
-numbers_are : (least : ℕ) (digits : Digits) (numbers : Numbers) → numbers_in_range least digits ≡ Ok numbers → NumbersAre least digits numbers
+numbers_are : (least : ℕ) (digits : Digits) (numbers : Numbers)
+    → numbers_in_range least digits ≡ Ok numbers
+    → NumbersAre least digits numbers
 unfolding numbers_in_range
 numbers_are least digits numbers e =
     let one = step_ok (ok_or (incarnation_of digits.inc) BadNumber) _ numbers e in
@@ -132,7 +152,15 @@ numbers_are least digits numbers e =
     let to_inc = incarnation_ok digits.to_inc two.0 two.1 in
     let number = within_ok least MAX_COUNTER digits.number three.0 three.1 in
     let same = ok_same (record { inc = one.0; to_inc = two.0; number = three.0 }) numbers three.2 in
-    subst (NumbersAre least digits) same (record { inc_same = inc.0; to_inc_same = to_inc.0; number_same = number.same; life = inc.1; other_life = to_inc.1; low = number.low; high = number.high })
+    subst (NumbersAre least digits) same (record {
+      inc_same = inc.0;
+      to_inc_same = to_inc.0;
+      number_same = number.same;
+      life = inc.1;
+      other_life = to_inc.1;
+      low = number.low;
+      high = number.high;
+    })
 
 -- what a line that was read says of the common fields
 pub record CommonIs (common : CommonFields) (least : ℕ) (line : NumberedLine) : Type 0 where
@@ -148,8 +176,12 @@ pub record CommonIs (common : CommonFields) (least : ℕ) (line : NumberedLine) 
   pub low : least ≤ line.numbers.number
   pub high : line.numbers.number ≤ MAX_COUNTER
 
-pub common_is : (common : CommonFields) (least : ℕ) (digits : Digits) (numbers : Numbers) (from to : List ℕ) (body : LineBody)
-    → numbers_of common ≡ Ok digits → numbers_in_range least digits ≡ Ok numbers → name_of node_name_fault common.from ≡ Ok from → name_of node_name_fault common.to ≡ Ok to
+pub common_is : (common : CommonFields) (least : ℕ) (digits : Digits) (numbers : Numbers) (from to : List ℕ)
+    (body : LineBody)
+    → numbers_of common ≡ Ok digits
+    → numbers_in_range least digits ≡ Ok numbers
+    → name_of node_name_fault common.from ≡ Ok from
+    → name_of node_name_fault common.to ≡ Ok to
     → CommonIs common least (record { from = from; to = to; numbers = numbers; body = body })
 common_is common least digits numbers from to body spelt ranged sender receiver =
     let are = digits_are common digits spelt in

@@ -23,7 +23,8 @@ use Rattle.route_frames.proofs.Spelt.Fields.{incarnation_ok, name_ok}
 in_range_same : (most : ℕ) (one seen : Whole) → whole_in_range most one ≡ Ok seen → one ≡ seen
 in_range_same most whole.Other seen e = ok_same whole.Other seen e
 in_range_same most whole.Negative seen e = absurd (cc)
-in_range_same most (whole.Number n) seen e = (where_ok (nat_le 1 n && nat_le n most) BadNumber (whole.Number n) seen e).1
+in_range_same most (whole.Number n) seen e =
+    (where_ok (nat_le 1 n && nat_le n most) BadNumber (whole.Number n) seen e).1
 
 number_read : (one : Whole) (n : ℕ) → whole_number one ≡ Ok n → one ≡ whole.Number n
 number_read whole.Other n e = absurd (cc)
@@ -47,7 +48,9 @@ member_number (Some (string s)) n e = absurd (cc)
 member_number (Some (array ds)) n e = absurd (cc)
 member_number (Some (object ms)) n e = absurd (cc)
 
-member_string : (found : Option Data) (text : List ℕ) → option_and_then as_str found ≡ Some text → found ≡ Some (string text)
+member_string : (found : Option Data) (text : List ℕ)
+    → option_and_then as_str found ≡ Some text
+    → found ≡ Some (string text)
 member_string None text e = absurd (cc)
 member_string (Some null) text e = absurd (cc)
 member_string (Some (boolean b)) text e = absurd (cc)
@@ -56,14 +59,20 @@ member_string (Some (string s)) text e = ap (λ s. Some (string s)) (some_same s
 member_string (Some (array ds)) text e = absurd (cc)
 member_string (Some (object ms)) text e = absurd (cc)
 
-member_is : (key : List ℕ) (json : Data) (n : ℕ) → whole_at key json ≡ whole.Number n → get key json ≡ Some (number_data n)
-member_is key json n e = member_number (get key json) (unsigned n) (num_read (option_and_then as_number (get key json)) n e)
+member_is : (key : List ℕ) (json : Data) (n : ℕ)
+    → whole_at key json ≡ whole.Number n
+    → get key json ≡ Some (number_data n)
+member_is key json n e =
+    member_number (get key json) (unsigned n) (num_read (option_and_then as_number (get key json)) n e)
 
 record LifeRead (key : List ℕ) (json : Data) (inc : ℕ) : Type 0 where
   pub member : get key json ≡ Some (number_data inc)
   pub valid : IsIncarnation inc
 
-life_read : (most : ℕ) (key : List ℕ) (json : Data) (found : Whole) (inc : ℕ) → whole_in_range most (whole_at key json) ≡ Ok found → incarnation_in found ≡ Ok inc → LifeRead key json inc
+life_read : (most : ℕ) (key : List ℕ) (json : Data) (found : Whole) (inc : ℕ)
+    → whole_in_range most (whole_at key json) ≡ Ok found
+    → incarnation_in found ≡ Ok inc
+    → LifeRead key json inc
 unfolding incarnation_in
 life_read most key json found inc e e_too =
     let step = step_ok (whole_number found) _ inc e_too in
@@ -80,7 +89,12 @@ unfolding node_at
 node_read key json name e =
     let step = step_ok (ok_or (option_and_then as_str (get key json)) BadArgs) _ name e in
     let is = name_ok node_name_fault step.0 name step.2 in
-    record { member = member_string (get key json) step.0 (found_ok (option_and_then as_str (get key json)) BadArgs step.0 step.1) ∙ ap (λ s. Some (string s)) is.0; valid = is.1 }
+    record {
+      member =
+          member_string (get key json) step.0 (found_ok (option_and_then as_str (get key json)) BadArgs step.0 step.1)
+          ∙ ap (λ s. Some (string s)) is.0;
+      valid = is.1;
+    }
 
 -- ---- INFO
 
@@ -96,7 +110,10 @@ info_found json info e =
     let name = step_ok (node_at (codes "server_name") json) _ info inc.2 in
     let life = life_read MAX_INCARNATION (codes "inc") json found.0 inc.0 found.1 inc.1 in
     let node = node_read (codes "server_name") json name.0 name.1 in
-    subst (InfoIn json) (ok_same (record { server_name = name.0; inc = inc.0 }) info name.2) (record { has = record { server_name = node.member; inc = life.member }; valid = record { server_name = node.valid; inc = life.valid } })
+    subst (InfoIn json) (ok_same (record { server_name = name.0; inc = inc.0 }) info name.2) (record {
+      has = record { server_name = node.member; inc = life.member };
+      valid = record { server_name = node.valid; inc = life.valid };
+    })
 
 object_found : (text : List ℕ) (json : Data) → object_of text ≡ Ok json → json_of text ≡ Some json
 unfolding object_of
@@ -131,7 +148,8 @@ dial_found json dial e =
     let inc = step_ok (incarnation_in one.0) _ dial three.2 in
     let to_inc = step_ok (incarnation_in two.0) _ dial inc.2 in
     let serial = step_ok (whole_number three.0) _ dial to_inc.2 in
-    let seen = in_range_same MAX_COUNTER (whole_at (codes "serial") json) three.0 three.1 ∙ number_read three.0 serial.0 serial.1 in
+    let seen = in_range_same MAX_COUNTER (whole_at (codes "serial") json) three.0 three.1
+    ∙ number_read three.0 serial.0 serial.1 in
     subst (DialIn json) (ok_same (record { inc = inc.0; to_inc = to_inc.0; serial = serial.0 }) dial serial.2) (record {
       inc = life_read MAX_INCARNATION (codes "inc") json one.0 inc.0 one.1 inc.1;
       to_inc = life_read MAX_INCARNATION (codes "to_inc") json two.0 to_inc.0 two.1 to_inc.1;
@@ -148,14 +166,33 @@ connect_found json connect e =
     let dial = step_ok (dial_in json) _ connect e in
     let name = step_ok (node_at (codes "server_name") json) _ connect dial.2 in
     let to = step_ok (node_at (codes "to") json) _ connect name.2 in
-    let made : Connect = record { server_name = name.0; inc = (dial.0).inc; to = to.0; to_inc = (dial.0).to_inc; serial = (dial.0).serial } in
-    let good = where_some (is_serial (dial.0).serial) made connect (found_ok (connect_of name.0 (dial.0).inc to.0 (dial.0).to_inc (dial.0).serial) BadNumber connect to.2) in
+    let made : Connect = record {
+      server_name = name.0;
+      inc = (dial.0).inc;
+      to = to.0;
+      to_inc = (dial.0).to_inc;
+      serial = (dial.0).serial;
+    } in
+    let good = where_some (is_serial (dial.0).serial) made connect
+    (found_ok (connect_of name.0 (dial.0).inc to.0 (dial.0).to_inc (dial.0).serial) BadNumber connect to.2) in
     let found = dial_found json dial.0 dial.1 in
     let node = node_read (codes "server_name") json name.0 name.1 in
     let dialed = node_read (codes "to") json to.0 to.1 in
     subst (ConnectIn json) good.1 (record {
-      has = record { server_name = node.member; inc = (found.inc).member; to = dialed.member; to_inc = (found.to_inc).member; serial = found.serial };
-      valid = record { server_name = node.valid; inc = (found.inc).valid; to = dialed.valid; to_inc = (found.to_inc).valid; serial = good.0 };
+      has = record {
+        server_name = node.member;
+        inc = (found.inc).member;
+        to = dialed.member;
+        to_inc = (found.to_inc).member;
+        serial = found.serial;
+      };
+      valid = record {
+        server_name = node.valid;
+        inc = (found.inc).valid;
+        to = dialed.valid;
+        to_inc = (found.to_inc).valid;
+        serial = good.0;
+      };
     })
 
 pub record ConnectRead (text : List ℕ) (connect : Connect) : Type 0 where

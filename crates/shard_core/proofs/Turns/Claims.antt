@@ -54,6 +54,18 @@ members_are shard clients job name all (sub ∷ subs) = by (gets job.message.sub
       ap (λ b. cond (b && (is_permitted job sub && room sub.key.queue)) (sub ∷ kept) kept) e ∙ ap (λ q. cond (is_permitted job sub && room q) (sub ∷ kept) kept) (named name sub.key.queue e)
       ∙ ap (λ l. cond (is_permitted job sub && room (Some name)) (sub ∷ l) l) rest
 
+-- those that a test keeps of the subscriptions that are lent
+pub lent_kept : (test : Subscription → Bool) (items : List (Bor Subscription))
+    → lent_subs (filter (λ b. test b.now) items) ≡ filter test (lent_subs items)
+lent_kept test [] = refl
+lent_kept test (b ∷ items) = by (test b.now) (lent_kept test items)
+  where
+    by : (t : Bool) → lent_subs (filter (λ x. test x.now) items) ≡ filter test (lent_subs items)
+        → lent_subs (cond t (b ∷ filter (λ x. test x.now) items) (filter (λ x. test x.now) items))
+        ≡ cond t (b.now ∷ filter test (lent_subs items)) (filter test (lent_subs items))
+    by true rest = ap (λ l. b.now ∷ l) rest
+    by false rest = rest
+
 -- an open subscription is found by its serial
 pub found_by_serial : (subs : List Subscription) (u : Subscription) → AreRising subs → In u subs → find (has_serial u.serial) subs ≡ Some u
 found_by_serial [] u rising there = absurd there

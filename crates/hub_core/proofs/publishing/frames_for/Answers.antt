@@ -1,4 +1,6 @@
-use Rattle.std.proofs.Common.{ℕ, ◌+◌, ◌++◌, List, [], drop, refl, ap, ◌∙◌}
+use Rattle.std.proofs.Common.{ℕ, ◌+◌, ◌++◌, List, [], drop, refl, sym, ap, ◌∙◌, Some}
+use Rattle.std.proofs.lemmas.Option.{slice_get-get_or}
+use Rattle.hub_core.specs.State.{Peer}
 use Rattle.std.specs.Prelude.{unwrap_or}
 use Rattle.std.specs.Option.{option_copied}
 use Rattle.subj.specs.Servers.{name_of}
@@ -15,3 +17,9 @@ loop-place-preserved c =
     ap (λ (l : List Frame). l ++ rest) c.in_ok-add_frame.ensures
     ∙ frames_step out.server.now out.number out.message.now queues_of peers i peer (frame_at out.server.now out.number out.message.now (queues_of (name_of out.server.now i)) i peer) c.loop-place.frames.items
     (sent_from out.server.now out.number out.message.now queues_of 0 peers) c.loop-place-test.true c.index-peers-place.is refl c.loop-place.invariant
+
+pub add_frame-requires-clause-seen : goal.add_frame-requires-clause-seen
+add_frame-requires-clause-seen c =
+    let peers = c.args.peers.now in let i = c.loop-place.place in let peer = c.index-peers-place.result in
+    let there = slice_get-get_or peers i peer c.loop-place-test.true in
+    c.requires.seen i peer (there ∙ ap (λ (peer : Peer). Some peer) (sym c.index-peers-place.is))

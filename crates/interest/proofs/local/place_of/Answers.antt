@@ -11,4 +11,5 @@ returns c =
     let key = c.args.key.now in
     let facts = c.binary_search_by.ensures in
     searched key_order_total key c.args.entries.now c.binary_search_by.result c.requires facts.bound
-    (facts.position (λ (entry : Key × ℕ). key_cmp entry.0 key) (always_same _ _ _ (λ a r f' called. (search rules, search rules))))
+    (facts.position (λ (entry : Key × ℕ). key_cmp entry.0 key)
+    (always_same _ _ _ (λ a r f' called. (search rules, search rules))))

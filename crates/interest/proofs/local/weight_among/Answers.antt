@@ -8,7 +8,12 @@ use Rattle.interest.proofs.local.weight_among.Goals as goal
 pub loop-place-init : goal.loop-place-init
 loop-place-init c =
     let on = c.next_match-place.ensures in
-    record { within = on.within; found = on.found; left = weight_at_start c.args.subject.now c.args.name.now c.args.entries.now c.next_match-place.result on; small = omega arith }
+    record {
+      within = on.within;
+      found = on.found;
+      left = weight_at_start c.args.subject.now c.args.name.now c.args.entries.now c.next_match-place.result on;
+      small = omega arith;
+    }
 
 pub overflow_add-total : goal.overflow_add-total
 overflow_add-total c =
@@ -33,7 +38,11 @@ loop-place-preserved c =
     record {
       within = on.within;
       found = on.found;
-      left = weight_further c.args.subject.now c.args.name.now c.args.entries.now c.loop-place.total c.loop-place.place c.next_match-place-in-loop-place.result c.weight_of-total.result
-          (weight_in c.args.subject.now c.args.name.now c.args.entries.now) x c.loop-place-test.true c.index-entries-place.is c.loop-place.invariant.found c.weight_of-total.ensures.same c.loop-place.invariant.left on;
+      left =
+          weight_further c.args.subject.now c.args.name.now c.args.entries.now c.loop-place.total c.loop-place.place
+          c.next_match-place-in-loop-place.result c.weight_of-total.result
+          (weight_in c.args.subject.now c.args.name.now c.args.entries.now) x c.loop-place-test.true
+          c.index-entries-place.is c.loop-place.invariant.found c.weight_of-total.ensures.same
+          c.loop-place.invariant.left on;
       small = omega arith;
     }

@@ -11,7 +11,8 @@ invariant-loop-key l = record {
   rising : IsStrictlySortedBy key_cmp (keys_of l.left.items);
   ordered : IsStrictlySortedBy key_cmp (keys_of l.numbers.entries);
   room : vec_len l.done + length l.left.items + length l.numbers.entries ≤ vec_capacity l.done;
-  items : l.done.items ++ with_numbers l.left.items l.numbers.entries ≡ with_numbers l.fn.entries.items l.fn.numbers.entries;
+  items : l.done.items ++ with_numbers l.left.items l.numbers.entries
+      ≡ with_numbers l.fn.entries.items l.fn.numbers.entries;
   capacity : vec_capacity l.done ≡ vec_capacity l.fn.room;
 }
 

@@ -6,7 +6,8 @@ abbrev pub invariant-loop-place : goal.invariant-loop-place
 invariant-loop-place g l = record {
   after : l.from ≤ l.place;
   within : l.place ≤ length l.entries;
-  passed : (i : ℕ) (d : g.row.T.Denot) → l.from ≤ i → i < l.place → subject_matches (g.T.Keyed.entry (get_or l.entries i d)).0.pattern l.subject ≡ false;
+  passed : (i : ℕ) (d : g.row.T.Denot) → l.from ≤ i → i < l.place
+      → subject_matches (g.T.Keyed.entry (get_or l.entries i d)).0.pattern l.subject ≡ false;
 }
 
 abbrev pub decreases-loop-place : goal.decreases-loop-place

@@ -6,5 +6,6 @@ use Rattle.interest.proofs.views.take_away.Goals as goal
 
 pub returns-in_default : goal.returns-in_default
 returns-in_default c =
-    let gap = subst (λ keys. IsGapFor key_cmp c.args.key.now keys c.in_default.field-0) c.deref.ensures.value c.in_default.ensures in
+    let gap = subst (λ keys. IsGapFor key_cmp c.args.key.now keys c.in_default.field-0) c.deref.ensures.value
+    c.in_default.ensures in
     nothing_less c.args.keys.now.items c.args.key.now gap.none

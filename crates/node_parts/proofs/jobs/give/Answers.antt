@@ -23,3 +23,19 @@ returns g c = λ same alike.
     let first : c.hand_over.new.self ≡ line_with_job same c.in-Some.first.now = c.hand_over.ensures ∙ ap (λ (j : Job). line_with_job j c.in-Some.first.now) parts.0 in
     let rest : c.hand_out.new.lines ≡ map (line_with_job same) others = c.hand_out.ensures same (parts.1 ∙ ap (λ n. replicate n same) few) in
     (λ k. first k ∷ rest k) ∙ ap (map (line_with_job same)) (sym split.0)
+
+pub unreachable-requires : goal.unreachable-requires
+unreachable-requires g c =
+    let more = length-append c.args.copies.now.items (c.args.job ∷ []) in
+    let enough = c.requires.enough in
+    let none = c.in_default.ensures.cases in
+    let no : ⊥ = omega arith in
+    no
+
+pub hand_out-requires-clause-enough : goal.hand_out-requires-clause-enough
+hand_out-requires-clause-enough g c =
+    let more = length-append c.args.copies.now.items (c.args.job ∷ []) in
+    let enough = c.requires.enough in
+    let rest = c.in-Some.ensures.cases.1 in
+    let few : length c.args.copies.now.items ≡ length c.in-Some.others.now = omega arith in
+    few

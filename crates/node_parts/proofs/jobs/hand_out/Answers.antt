@@ -1,11 +1,11 @@
-use Rattle.std.proofs.Common.{◌≡◌, suc, ◌+◌, ◌<◌, List, ◌∷◌, [], ◌++◌, length, map, take, drop, replicate, set, Some, sym, ap, ◌∙◌, subst, arith, length-append}
+use Rattle.std.proofs.Common.{◌≡◌, refl, suc, ◌+◌, ◌<◌, List, ◌∷◌, [], ◌++◌, length, map, take, drop, replicate, set, Some, sym, ap, ◌∙◌, subst, arith, length-append}
 use Rattle.std.specs.Prelude.{slice_get}
 use Rattle.std.proofs.lemmas.Option.{slice_get-get_or}
 use Rattle.subj.specs.declared.jobs.Job.{Job}
 use Rattle.subj.specs.declared.limits.TheConstants.{WINDOW}
 use Rattle.node_law.specs.State.{ShardWithJobs}
 use Rattle.node_law.specs.Steps.{line_with_job}
-use Rattle.node_parts.proofs.Handing.{mapped_more, rest_same, first_of_rest, popped, rest_next}
+use Rattle.node_parts.proofs.Handing.{mapped_more, all_mapped, rest_same, first_of_rest, popped, rest_next}
 use Rattle.hub_core.proofs.Neighbours.Known.{set_length}
 use Rattle.node_parts.proofs.jobs.hand_out.Goals as goal
 
@@ -43,3 +43,27 @@ loop-line-preserved g c =
           ∙ mapped_more (line_with_job j) lines k x there
           ∙ ap (λ n. map (line_with_job j) (take n lines) ++ drop n lines) next;
     }
+
+pub loop-line-init : goal.loop-line-init
+loop-line-init g c =
+    let enough = c.requires.enough in
+    record {
+      size = refl;
+      enough = omega arith;
+      rest = refl;
+      alike = λ job same. ◌∙◌ {A = List Job} same (ap (λ n. replicate n job) (sym enough));
+      given = λ job same. refl;
+    }
+
+pub unreachable-requires : goal.unreachable-requires
+unreachable-requires g c =
+    let enough = c.loop-line.invariant.enough in
+    let within = c.loop-line-test.true in
+    let none = c.in_default.ensures.cases in
+    let no : ⊥ = omega arith in
+    no
+
+pub returns : goal.returns
+returns g c = λ job same.
+    c.loop-line.invariant.given job same
+    ∙ all_mapped (line_with_job job) c.args.lines.now c.loop-line.line-index c.loop-line-test.false

@@ -10,19 +10,24 @@ returns-in_err-text-clause-means c =
     rw (p.1, p.2) (bad_line_means c.args.line.now c.args.payload c.in_err-text.field-0.0 c.in_err-text.ensures)
 
 pub returns-in_err-text-clause-spelt : goal.returns-in_err-text-clause-spelt
-returns-in_err-text-clause-spelt c = frame_answered c.args.line.now c.args.payload c.from_residual.result (returns-in_err-text-clause-means c)
+returns-in_err-text-clause-spelt c =
+    frame_answered c.args.line.now c.args.payload c.from_residual.result (returns-in_err-text-clause-means c)
 
 pub returns-in-Numbered-clause-means : goal.returns-in-Numbered-clause-means
 returns-in-Numbered-clause-means c =
-    numbered_means c.args.line.now c.args.payload (numbered_view c.in-Numbered.line) c.decode_numbered.result (c.in_ok-text.ensures.0 ∙ ap text_meaning c.in-Numbered.is) c.decode_numbered.ensures
+    numbered_means c.args.line.now c.args.payload (numbered_view c.in-Numbered.line) c.decode_numbered.result
+    (c.in_ok-text.ensures.0 ∙ ap text_meaning c.in-Numbered.is) c.decode_numbered.ensures
 
 pub returns-in-Numbered-clause-spelt : goal.returns-in-Numbered-clause-spelt
-returns-in-Numbered-clause-spelt c = frame_answered c.args.line.now c.args.payload c.decode_numbered.result (returns-in-Numbered-clause-means c)
+returns-in-Numbered-clause-spelt c =
+    frame_answered c.args.line.now c.args.payload c.decode_numbered.result (returns-in-Numbered-clause-means c)
 
 pub returns-in-Info-clause-means : goal.returns-in-Info-clause-means
 returns-in-Info-clause-means c =
     let json : is_json c.in_ok-text.text ≡ true = greeting_is_json c.in_ok-text.text c.in-Info.is in
-    greeting_means c.args.line.now c.args.payload c.in_ok-text.text c.decode_greeting.result c.in_ok-text.ensures.0 (c.in_ok-text.ensures.1 ∙ json) c.decode_greeting.ensures
+    greeting_means c.args.line.now c.args.payload c.in_ok-text.text c.decode_greeting.result c.in_ok-text.ensures.0
+    (c.in_ok-text.ensures.1 ∙ json) c.decode_greeting.ensures
 
 pub returns-in-Info-clause-spelt : goal.returns-in-Info-clause-spelt
-returns-in-Info-clause-spelt c = frame_answered c.args.line.now c.args.payload c.decode_greeting.result (returns-in-Info-clause-means c)
+returns-in-Info-clause-spelt c =
+    frame_answered c.args.line.now c.args.payload c.decode_greeting.result (returns-in-Info-clause-means c)

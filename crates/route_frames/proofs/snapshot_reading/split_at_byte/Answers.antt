@@ -6,4 +6,6 @@ pub returns-in_default : goal.returns-in_default
 returns-in_default c = one_piece c.args.byte c.args.text.now (sym c.first_of.ensures ∙ c.in_default.is)
 
 pub returns : goal.returns
-returns c = first_piece c.args.byte c.args.text.now _ _ _ (sym c.first_of.ensures ∙ c.in-Some.is) c.split_at.ensures.front c.split_at-2.ensures.back
+returns c =
+    first_piece c.args.byte c.args.text.now _ _ _ (sym c.first_of.ensures ∙ c.in-Some.is) c.split_at.ensures.front
+    c.split_at-2.ensures.back

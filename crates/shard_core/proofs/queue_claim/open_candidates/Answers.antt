@@ -1,8 +1,6 @@
-use Rattle.std.proofs.Common.{List, ap, ◌∙◌}
+use Rattle.std.proofs.Common.{ap, ◌∙◌}
 use Rattle.std.specs.Prelude.{filter}
-use Rattle.std.proofs.lemmas.Result.{IfOk-weaker}
 use Rattle.sub_table.specs.Subscriptions.{gets}
-use Rattle.sub_table.specs.declared.Subscription.{Subscription}
 use Rattle.shard_core.specs.Members.{is_in_group_of}
 use Rattle.shard_core.specs.Tallies.{lent_subs}
 use Rattle.shard_core.proofs.Turns.Groups.{same_members}
@@ -12,5 +10,10 @@ pub returns-clause-all : goal.returns-clause-all
 returns-clause-all g c =
     let claim = c.args.claim.now in
     let all = c.args.openings.now.subs in
-    let same = ap (λ (l : List Subscription). filter (is_in_group_of claim.name.now) l) (ap lent_subs c.deref.ensures.value) ∙ c.in_ok-matching.ensures.all ∙ ap (λ t. filter (is_in_group_of claim.name.now) (filter (gets t) all)) c.subject.ensures in
-    IfOk-weaker c.candidates.result _ _ (λ subs is. is ∙ same_members claim.shard c.args.conns.now.next claim.job.now claim.name.now (lent_subs c.deref.result.now) (filter (gets claim.job.now.message.subject) all) same) c.candidates.ensures
+    let gotten = filter (gets claim.job.now.message.subject) all in
+    let same =
+    c.in_ok-subs.ensures.all
+    ∙ ap (λ t. filter (is_in_group_of claim.name.now) (filter (gets t) all)) c.subject.ensures in
+    c.keep_candidates.ensures
+    ∙ same_members claim.shard c.args.conns.now.next claim.job.now claim.name.now (lent_subs c.in_ok-subs.subs.items)
+    gotten same

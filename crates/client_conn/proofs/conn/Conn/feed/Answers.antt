@@ -7,4 +7,8 @@ use Rattle.client_conn.proofs.conn.Conn.feed.Goals as goal
 pub returns-clause-ok : goal.returns-clause-ok
 returns-clause-ok c =
     rw (← c.self.view_is)
-    (on_ok_weaker c.feed.result (λ d. ap (asking_at c.self.inside.open_asks) d ∙ sym (fed_standing c.self.inside.open_asks (end_of c.self.inside.reader) c.args.bytes.now)) c.feed.ensures.ok)
+    (on_ok_weaker c.feed.result
+    (λ d.
+    ap (asking_at c.self.inside.open_asks) d
+    ∙ sym (fed_standing c.self.inside.open_asks (end_of c.self.inside.reader) c.args.bytes.now))
+    c.feed.ensures.ok)

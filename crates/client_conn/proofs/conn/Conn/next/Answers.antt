@@ -8,5 +8,10 @@ returns c =
     let same = c.in_ok-advance.ensures.same in
     rw (← c.self.view_is) (
       (refl, λ _. tt, record { asking = same; is_given = λ some. sym c.first.ensures.some ∙ some }),
-      record { first = first_asked c.advance.new.open_asks (end_of c.advance.new.reader) _ _ c.first.ensures.value c.in_ok-advance.ensures.first same; rest = tt },
+      record {
+        first =
+            first_asked c.advance.new.open_asks (end_of c.advance.new.reader) _ _ c.first.ensures.value
+            c.in_ok-advance.ensures.first same;
+        rest = tt;
+      },
     )

@@ -6,10 +6,16 @@ use Rattle.interest.specs.Counts.{Counts, total_cost, is_full, too_many_if}
 use Rattle.interest.proofs.Counting.Deltas.{has_room}
 use Rattle.interest.proofs.local.Local.add.Goals as goal
 
-pub returns-in_err-key : goal.returns-in_err-key
-returns-in_err-key c =
+pub returns-in_err-copy : goal.returns-in_err-copy
+returns-in_err-copy c =
     let counts = c.self.inside.entries.items in
     let few : length counts < MAX_KEYS = search rules in
-    let small : total_cost counts + cost_of c.args.key.now ≤ SUBSCRIPTION_BYTES = (let cost = c.cost.ensures.same in let bytes : c.self.inside.bytes ≡ total_cost counts = c.self.invariant.cost_is in omega arith) in
-    let room : is_full c.args.self.now c.args.key.now ≡ false = subst (λ (counts : Counts). is_full counts c.args.key.now ≡ false) c.self.view_is (has_room counts c.args.key.now few small) in
-    let p = err_from_is_err_and c.from_residual-in_err-key.result c.from_residual-in_err-key.ensures.1 in rw (p.1, p.2) (ap too_many_if room, refl)
+    let small : total_cost counts + cost_of c.args.key.now ≤ SUBSCRIPTION_BYTES =
+    (let cost = c.cost.ensures.same in
+    let bytes : c.self.inside.bytes ≡ total_cost counts = c.self.invariant.cost_is in
+    omega arith) in
+    let room : is_full c.args.self.now c.args.key.now ≡ false = subst
+    (λ (counts : Counts). is_full counts c.args.key.now ≡ false) c.self.view_is
+    (has_room counts c.args.key.now few small) in
+    let p = err_from_is_err_and c.from_residual.result c.from_residual.ensures.1 in
+    rw (p.1, p.2) (ap too_many_if room, refl)

@@ -3,4 +3,6 @@ use Rattle.interest.specs.Matches.{has_plain_match}
 use Rattle.interest.proofs.local.Local.has_plain.Goals as goal
 
 pub returns : goal.returns
-returns c = c.has_match.ensures ∙ ap (has_plain_match c.args.subject.now) (map-id c.deref.result.now ∙ c.deref.ensures.value ∙ c.self.view_is)
+returns c =
+    c.has_match.ensures
+    ∙ ap (has_plain_match c.args.subject.now) (map-id c.deref.result.now ∙ c.deref.ensures.value ∙ c.self.view_is)

@@ -8,6 +8,8 @@ abbrev pub invariant-loop-place : goal.invariant-loop-place
 invariant-loop-place l = record {
   valid : IsInterest (counts_told l.self (take l.place l.deltas));
   taken : are_refused (counts_told l.self (take l.place l.deltas)) (drop l.place l.deltas) ≡ false;
-  opened : l.plan.opened.items ++ keys_opened (counts_told l.self (take l.place l.deltas)) (drop l.place l.deltas) ≡ keys_opened l.self l.deltas;
-  changes : l.plan.changes.items ++ changes_told (counts_told l.self (take l.place l.deltas)) (drop l.place l.deltas) ≡ changes_told l.self l.deltas;
+  opened : l.plan.opened.items ++ keys_opened (counts_told l.self (take l.place l.deltas)) (drop l.place l.deltas)
+      ≡ keys_opened l.self l.deltas;
+  changes : l.plan.changes.items ++ changes_told (counts_told l.self (take l.place l.deltas)) (drop l.place l.deltas)
+      ≡ changes_told l.self l.deltas;
 }

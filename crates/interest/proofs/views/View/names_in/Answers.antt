@@ -5,4 +5,8 @@ use Rattle.interest.specs.Views.{View}
 use Rattle.interest.proofs.views.View.names_in.Goals as goal
 
 pub returns : goal.returns
-returns c = subst (λ (keys : View). AreGathered (names_in c.args.subject.now keys c.args.names.now) c.names_in.new.names c.names_in.result) (map-id c.deref.result.now ∙ c.deref.ensures.value ∙ ap (λ (heard : Heard). heard.keys) c.self.view_is) c.names_in.ensures
+returns c =
+    subst (λ (keys : View).
+    AreGathered (names_in c.args.subject.now keys c.args.names.now) c.names_in.new.names c.names_in.result)
+    (map-id c.deref.result.now ∙ c.deref.ensures.value ∙ ap (λ (heard : Heard). heard.keys) c.self.view_is)
+    c.names_in.ensures

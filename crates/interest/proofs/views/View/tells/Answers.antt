@@ -9,7 +9,8 @@ returns-then-len c =
     let keys = c.self.inside.keys.items in
     let counts = c.counts.inside.entries.items in
     sym (other_lengths keys counts (λ same. c.if-len.true (omega (arith, c.len.ensures, c.len-2.ensures, same))))
-    ∙ ap (λ (v : Heard). same_views v.keys (told_view counts)) c.self.view_is ∙ ap (λ es. same_views c.args.self.now.keys (told_view es)) c.counts.view_is
+    ∙ ap (λ (v : Heard). same_views v.keys (told_view counts)) c.self.view_is
+    ∙ ap (λ es. same_views c.args.self.now.keys (told_view es)) c.counts.view_is
 
 pub loop-place-preserved : goal.loop-place-preserved
 loop-place-preserved c =
@@ -17,10 +18,13 @@ loop-place-preserved c =
     let counts = c.counts.inside.entries.items in
     let i = c.loop-place.place in
     let long : length keys ≡ length c.self.inside.keys.items = ap length c.deref-weighted-items.ensures.value in
-    let lt2 : i < length counts = omega (arith, c.loop-place-test.true, long, c.len.ensures, c.len-2.ensures, c.if-len.false) in
+    let lt2 : i < length counts =
+    omega (arith, c.loop-place-test.true, long, c.len.ensures, c.len-2.ensures, c.if-len.false) in
     c.loop-place.invariant
-    ∙ told_next keys counts i c.weighted-item.result c.index-entry.result.now c.loop-place-test.true lt2 c.weighted-item.is c.index-entry.ensures
-    ∙ ap (λ b. b && same_views (drop (i + 1) keys) (drop (i + 1) (told_view counts))) (sym c.is_as_counted.ensures ∙ c.if-not-is_as_counted.false)
+    ∙ told_next keys counts i c.weighted-item.result c.index-entry.result.now c.loop-place-test.true lt2
+    c.weighted-item.is c.index-entry.ensures
+    ∙ ap (λ b. b && same_views (drop (i + 1) keys) (drop (i + 1) (told_view counts)))
+    (sym c.is_as_counted.ensures ∙ c.if-not-is_as_counted.false)
 
 pub returns-then-not-is_as_counted : goal.returns-then-not-is_as_counted
 returns-then-not-is_as_counted c =
@@ -28,12 +32,17 @@ returns-then-not-is_as_counted c =
     let counts = c.counts.inside.entries.items in
     let i = c.loop-place.place in
     let long : length keys ≡ length c.self.inside.keys.items = ap length c.deref-weighted-items.ensures.value in
-    let lt2 : i < length counts = omega (arith, c.loop-place-test.true, long, c.len.ensures, c.len-2.ensures, c.if-len.false) in
+    let lt2 : i < length counts =
+    omega (arith, c.loop-place-test.true, long, c.len.ensures, c.len-2.ensures, c.if-len.false) in
     let other = c.loop-place.invariant
-    ∙ told_next keys counts i c.weighted-item.result c.index-entry.result.now c.loop-place-test.true lt2 c.weighted-item.is c.index-entry.ensures
-    ∙ ap (λ b. b && same_views (drop (i + 1) keys) (drop (i + 1) (told_view counts))) (sym c.is_as_counted.ensures ∙ c.if-not-is_as_counted.true) in
-    sym other ∙ ap (λ ks. same_views ks (told_view counts)) c.deref-weighted-items.ensures.value
-    ∙ ap (λ (v : Heard). same_views v.keys (told_view counts)) c.self.view_is ∙ ap (λ es. same_views c.args.self.now.keys (told_view es)) c.counts.view_is
+    ∙ told_next keys counts i c.weighted-item.result c.index-entry.result.now c.loop-place-test.true lt2
+    c.weighted-item.is c.index-entry.ensures
+    ∙ ap (λ b. b && same_views (drop (i + 1) keys) (drop (i + 1) (told_view counts)))
+    (sym c.is_as_counted.ensures ∙ c.if-not-is_as_counted.true) in
+    sym other
+    ∙ ap (λ ks. same_views ks (told_view counts)) c.deref-weighted-items.ensures.value
+    ∙ ap (λ (v : Heard). same_views v.keys (told_view counts)) c.self.view_is
+    ∙ ap (λ es. same_views c.args.self.now.keys (told_view es)) c.counts.view_is
 
 pub returns : goal.returns
 returns c =
@@ -43,5 +52,7 @@ returns c =
     let long : length keys ≡ length c.self.inside.keys.items = ap length c.deref-weighted-items.ensures.value in
     let same : length keys ≡ length counts = omega (arith, long, c.len.ensures, c.len-2.ensures, c.if-len.false) in
     let all = c.loop-place.invariant ∙ told_end keys counts i same c.loop-place-test.false in
-    sym all ∙ ap (λ ks. same_views ks (told_view counts)) c.deref-weighted-items.ensures.value
-    ∙ ap (λ (v : Heard). same_views v.keys (told_view counts)) c.self.view_is ∙ ap (λ es. same_views c.args.self.now.keys (told_view es)) c.counts.view_is
+    sym all
+    ∙ ap (λ ks. same_views ks (told_view counts)) c.deref-weighted-items.ensures.value
+    ∙ ap (λ (v : Heard). same_views v.keys (told_view counts)) c.self.view_is
+    ∙ ap (λ es. same_views c.args.self.now.keys (told_view es)) c.counts.view_is

@@ -10,4 +10,7 @@ returns-in_err-text-clause-spelt c =
     rw (p.1, p.2) (line_answered c.args.line.now (Err (Refused c.in_err-text.field-0.0)) c.in_err-text.ensures)
 
 pub returns-clause-spelt : goal.returns-clause-spelt
-returns-clause-spelt c = line_answered c.args.line.now c.copy.result (copy_means c.args.line.now c.in_ok-text.text c.copy.result c.in_ok-text.ensures.0 c.in_ok-text.ensures.1 c.copy.ensures)
+returns-clause-spelt c =
+    line_answered c.args.line.now c.copy.result
+    (copy_means c.args.line.now c.in_ok-text.text c.copy.result c.in_ok-text.ensures.0 c.in_ok-text.ensures.1
+    c.copy.ensures)
