@@ -7,7 +7,9 @@ use Rattle.std.proofs.lemmas.List.{take-take}
 use Rattle.event_log.specs.Rates.{AreApart, AtMostTenInASecond, has_room, kept_after, kept_of, told_of}
 
 -- where there is room, the tenth line before is a second old
-apart : (o : Option ℕ) (now : ℕ) → option_map_or (λ tenth. nat_le 1000 (now - tenth)) o true ≡ true → IfSome o (λ tenth. tenth + 1000 ≤ now)
+apart : (o : Option ℕ) (now : ℕ)
+    → option_map_or (λ tenth. nat_le 1000 (now - tenth)) o true ≡ true
+    → IfSome o (λ tenth. tenth + 1000 ≤ now)
 apart None now e = tt
 apart (Some tenth) now e = let old : 1000 ≤ now - tenth = leb-true 1000 (now - tenth) e in omega arith
 
@@ -16,7 +18,10 @@ unfolding told_of
 told_apart [] = tt
 told_apart (now ∷ before) = go (has_room (told_of before) now) refl (told_apart before)
   where
-    go : (b : Bool) → has_room (told_of before) now ≡ b → AreApart (told_of before) → AreApart (cond b (now ∷ told_of before) (told_of before))
+    go : (b : Bool)
+        → has_room (told_of before) now ≡ b
+        → AreApart (told_of before)
+        → AreApart (cond b (now ∷ told_of before) (told_of before))
     go true e rest = (apart (slice_get (told_of before) 9) now e, rest)
     go false e rest = rest
 
@@ -28,11 +33,15 @@ front_get (suc n) zero (x ∷ xs) h = refl
 front_get (suc n) (suc i) (x ∷ xs) h = front_get n i xs (omega arith)
 
 -- the last ten times tell whether there is room, and which are the last ten then
-same_after : (told : List ℕ) (now : ℕ) → kept_after (take 10 told) now ≡ take 10 (cond (has_room told now) (now ∷ told) told)
-same_after told now = ap (λ (b : Bool). cond b (now ∷ take 9 (take 10 told)) (take 10 told)) room ∙ go (has_room told now)
+same_after : (told : List ℕ) (now : ℕ)
+    → kept_after (take 10 told) now ≡ take 10 (cond (has_room told now) (now ∷ told) told)
+same_after told now =
+    ap (λ (b : Bool). cond b (now ∷ take 9 (take 10 told)) (take 10 told)) room ∙ go (has_room told now)
   where
     room : has_room (take 10 told) now ≡ has_room told now
-    room = ap (λ (o : Option ℕ). option_map_or (λ tenth. nat_le 1000 (now - tenth)) o true) (front_get 10 9 told (omega arith))
+    room =
+        ap (λ (o : Option ℕ). option_map_or (λ tenth. nat_le 1000 (now - tenth)) o true)
+        (front_get 10 9 told (omega arith))
 
     go : (b : Bool) → cond b (now ∷ take 9 (take 10 told)) (take 10 told) ≡ take 10 (cond b (now ∷ told) told)
     go true = ap (λ (xs : List ℕ). now ∷ xs) (take-take 9 10 told (omega arith))

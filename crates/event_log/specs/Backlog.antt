@@ -13,13 +13,19 @@ use Rattle.event_log.specs.Rates.{Admits}
 abbrev pub counted : ℕ → ℕ → ℕ
 counted n more = min (n + more) (2 ^ 64 - 1)
 
--- a line that is told stands behind the others; one for which its kind has no room is counted by its kind, and one for which the
--- queue has no room, or no memory for another, among the lost ones. Where the queue has room, its kind has had its turn
+-- a line that is told stands behind the others; one for which its kind has no room is counted by
+-- its kind, and one for which the queue has no room, or no memory for another, among the lost ones.
+-- Where the queue has room, its kind has had its turn
 abbrev pub IsFateOf : Backlog → Line → ℕ → Fate → Backlog → Type 0
-IsFateOf old line now Told new = (new.lines.items ≡ old.lines.items ++ line ∷ []) × (new.lost ≡ old.lost)
+IsFateOf old line now Told new =
+    (new.lines.items ≡ old.lines.items ++ line ∷ [])
+    × (new.lost ≡ old.lost)
     × Admits old.rates.all (place_of (kind_of line.event)) now true new.rates.all
 IsFateOf old line now HeldBack new = (new.lines.items ≡ old.lines.items) × (new.lost ≡ old.lost)
     × Admits old.rates.all (place_of (kind_of line.event)) now false new.rates.all
-IsFateOf old line now Lost new = (new.lines.items ≡ old.lines.items) × (new.lost ≡ counted old.lost 1)
+IsFateOf old line now Lost new =
+    (new.lines.items ≡ old.lines.items)
+    × (new.lost ≡ counted old.lost 1)
     × (((LINES ≤ vec_len old.lines) × (new.rates ≡ old.rates))
-    ⊎ ((vec_capacity old.lines ≤ vec_len old.lines) × Admits old.rates.all (place_of (kind_of line.event)) now true new.rates.all))
+    ⊎ ((vec_capacity old.lines ≤ vec_len old.lines)
+    × Admits old.rates.all (place_of (kind_of line.event)) now true new.rates.all))

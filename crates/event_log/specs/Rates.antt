@@ -3,8 +3,8 @@ use Rattle.std.specs.Prelude.{◌≡◌, ◌≢◌, ℕ, Bool, true, ◌+◌, �
 use Rattle.std.specs.Option.{option_map_or}
 use Rattle.event_log.specs.declared.rates.Rate.{Rate}
 
--- where the lines before it were told at these times, in milliseconds and the newest first, a line that comes now is told:
--- the tenth before it was told a second ago, or there is none
+-- where the lines before it were told at these times, in milliseconds and the newest first, a line
+-- that comes now is told: the tenth before it was told a second ago, or there is none
 abbrev pub has_room : List ℕ → ℕ → Bool
 has_room told now = option_map_or (λ tenth. nat_le 1000 (now - tenth)) (slice_get told 9) true
 
@@ -23,12 +23,14 @@ pub record IsAdmitted (old : Rate) (now : ℕ) (new : Rate) : Type 0 where
 
 -- whether lines of the kind at this place have room now
 abbrev pub HasRoom : List Rate → ℕ → ℕ → Bool → Type 0
-HasRoom rates place now is = IfSome (slice_get rates place) (λ rate. is ≡ has_room rate.told.items now)
+HasRoom rates place now is =
+    IfSome (slice_get rates place) (λ rate. is ≡ has_room rate.told.items now)
 
 -- a line of the kind at this place: no other kind changes
 pub record Admits (old : List Rate) (place now : ℕ) (told : Bool) (new : List Rate) : Type 0 where
   pub room : HasRoom old place now told
-  pub own : IfSome (slice_get old place) (λ before. IfSome (slice_get new place) (λ after. IsAdmitted before now after))
+  pub own : IfSome (slice_get old place)
+      (λ before. IfSome (slice_get new place) (λ after. IsAdmitted before now after))
   pub others : (other : ℕ) → other ≢ place → slice_get new other ≡ slice_get old other
 
 -- ---- what that comes to
@@ -36,7 +38,8 @@ pub record Admits (old : List Rate) (place now : ℕ) (told : Bool) (new : List 
 -- the lines that are told of those that come at these times; the newest stand first
 unfoldable pub told_of : List ℕ → List ℕ
 told_of [] = []
-told_of (now ∷ before) = if has_room (told_of before) now then now ∷ told_of before else told_of before
+told_of (now ∷ before) =
+    if has_room (told_of before) now then now ∷ told_of before else told_of before
 
 -- the last ten times, as they are kept from line to line
 unfoldable pub kept_of : List ℕ → List ℕ
@@ -46,8 +49,10 @@ kept_of (now ∷ before) = kept_after (kept_of before) now
 -- each line is told a second, at least, after the tenth before it
 abbrev pub AreApart : List ℕ → Type 0
 AreApart [] = Unit {0}
-AreApart (now ∷ before) = IfSome (slice_get before 9) (λ tenth. tenth + 1000 ≤ now) × AreApart before
+AreApart (now ∷ before) =
+    IfSome (slice_get before 9) (λ tenth. tenth + 1000 ≤ now) × AreApart before
 
 -- whenever lines come
 abbrev pub AtMostTenInASecond : Type 0
-AtMostTenInASecond = (times : List ℕ) → AreApart (told_of times) × (kept_of times ≡ take 10 (told_of times))
+AtMostTenInASecond =
+    (times : List ℕ) → AreApart (told_of times) × (kept_of times ≡ take 10 (told_of times))

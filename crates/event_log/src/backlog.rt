@@ -54,7 +54,8 @@ pub struct Backlog {
 
 /// Puts an item behind the others, where there is memory for it. Whether there was.
 fn put<T: Drop>(items: &mut Vec<T>, item: T) -> bool
-    ensures items { items.new.items ≡ (if result then items.old.items ++ item ∷ [] else items.old.items) }
+    ensures items { items.new.items
+        ≡ (if result then items.old.items ++ item ∷ [] else items.old.items) }
     ensures full { result ≡ false → vec_capacity items.old ≤ vec_len items.old }
 {
     items.push(item).is_ok()
@@ -107,7 +108,8 @@ impl Backlog {
 
     /// Whether some lines were not told, and their counts neither.
     pub fn has_counts(&self) -> bool
-        ensures { result ≡ (nat_lt 0 self.now.lost || list_any (λ rate. nat_lt 0 rate.held) self.now.rates.all) }
+        ensures { result
+            ≡ (nat_lt 0 self.now.lost || list_any (λ rate. nat_lt 0 rate.held) self.now.rates.all) }
     {
         self.lost > 0 || self.rates.has_held()
     }

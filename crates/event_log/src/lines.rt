@@ -12,7 +12,7 @@ use server_events::{
 use std::fmt::{Display, Formatter, Write};
 use std::net::SocketAddr;
 use std::{fmt, io};
-use subj::NodeId;
+use subj::{ConnId, NodeId};
 
 /// What stands in place of a server's name where a line is about all servers of the process.
 pub const PROCESS: &str = "mesh";
@@ -134,6 +134,39 @@ fn write_refusal<W: Write, D: Display + Drop>(
     }
 }
 
+/// A number between words.
+fn write_count<W: Write>(
+    f: &mut Formatter<W>,
+    before: &str,
+    count: u64,
+    behind: &str,
+) -> fmt::Result {
+    write!(f, "{before} {count} {behind}")
+}
+
+/// What a client did.
+fn write_client<W: Write>(f: &mut Formatter<W>, client: ConnId, what: &str) -> fmt::Result {
+    write!(f, "client {} {what}", client.get())
+}
+
+fn write_closed<W: Write>(
+    f: &mut Formatter<W>,
+    client: ConnId,
+    cause: ClientCause,
+    waiting: u64,
+) -> fmt::Result {
+    let (client, cause) = (client.get(), client_cause(cause));
+    write!(
+        f,
+        "client {client} is closed: {cause}, {waiting} bytes wait for it"
+    )
+}
+
+fn write_down<W: Write>(f: &mut Formatter<W>, peer: NodeId, cause: PeerCause) -> fmt::Result {
+    let cause = peer_cause(cause);
+    write!(f, "{} is not reached any more: {cause}", peer.text())
+}
+
 fn write_resolved<W: Write>(
     f: &mut Formatter<W>,
     peer: NodeId,
@@ -159,23 +192,14 @@ impl Display for EventText {
                 "listens at {clients} for clients and at {routes} for servers"
             ),
             Event::PeerUp { peer } => write!(f, "{} is reached", peer.text()),
-            Event::PeerDown { peer, cause } => {
-                let cause = peer_cause(cause);
-                write!(f, "{} is not reached any more: {cause}", peer.text())
-            }
-            Event::ClientCame { client } => write!(f, "client {} came", client.get()),
-            Event::ClientGone { client } => write!(f, "client {} went", client.get()),
+            Event::PeerDown { peer, cause } => write_down(f, peer, cause),
+            Event::ClientCame { client } => write_client(f, client, "came"),
+            Event::ClientGone { client } => write_client(f, client, "went"),
             Event::ClientClosed {
                 client,
                 cause,
                 waiting,
-            } => {
-                let (client, cause) = (client.get(), client_cause(cause));
-                write!(
-                    f,
-                    "client {client} is closed: {cause}, {waiting} bytes wait for it"
-                )
-            }
+            } => write_closed(f, client, cause, waiting),
             Event::ConnectionRefused { caller, cause } => {
                 write_refusal(f, CallerText(caller), cause)
             }
@@ -183,10 +207,12 @@ impl Display for EventText {
             Event::OutOfMemory => f.write_str(
                 "out of memory: what could not be done is tried again",
             ),
-            Event::DrainAsked { seconds } => { write!(f, "drains, for at most {seconds} seconds") }
+            Event::DrainAsked { seconds } => {
+                write_count(f, "drains, for at most", seconds, "seconds")
+            }
             Event::Drained => f.write_str("has drained"),
             Event::DrainedLate { clients } => {
-                write!(f, "has drained too late: {clients} clients were cut off")
+                write_count(f, "has drained too late:", clients, "clients were cut off")
             }
             Event::Stopped => f.write_str("stops"),
             Event::Failed { cause } => write!(f, "cannot go on: {}", SystemText(cause)),

@@ -195,12 +195,13 @@ fn tell<R: Print>(rt: &R, tally: &Tally) -> io::Result<()> {
 
 /// Plays the files of cases that the command line names. Tells each call whose answer differs from the one beside it, and at the end how
 /// many cases and calls there were and the first case that differs. The exit status is 0 just where none differs.
-pub fn play<R: Files + env::Env + Print + Eprint + Alloc<A = Global>, G: Rig>(
+pub fn play<R: Files + env::Env + Print + Eprint + Alloc<A = Global>, G: Rig + Drop>(
     rt: &R,
-    rig: &mut G,
+    mut rig: G,
 ) -> ExitCode {
     let mut tally = Tally::new(rt.alloc());
-    let played = play_all(rt, rig, &mut tally);
+    let played = play_all(rt, &mut rig, &mut tally);
+    drop(rig);
     let told = tell(rt, &tally);
     match played.and(told) {
         Ok(()) if tally.first.is_none() => ExitCode::SUCCESS,

@@ -14,6 +14,9 @@ last_is_in [] file = inl refl
 last_is_in (f ∷ rest) file = inr (last_is_in rest file)
 
 -- the last of the newest of them is one of them
-pub taken_back : (n : ℕ) (files rest : Files) (file : Option (Option (Vec ℕ Global))) → take n files ≡ rest ++ option_to_list file → IfSome file (λ f. HadBy files (content f))
+pub taken_back : (n : ℕ) (files rest : Files) (file : Option (Option (Vec ℕ Global)))
+    → take n files ≡ rest ++ option_to_list file
+    → IfSome file (λ f. HadBy files (content f))
 taken_back n files rest None is = tt
-taken_back n files rest (Some file) is = front_is_in n files (content file) (subst (λ (l : Files). HadBy l (content file)) (sym is) (last_is_in rest file))
+taken_back n files rest (Some file) is =
+    front_is_in n files (content file) (subst (λ (l : Files). HadBy l (content file)) (sym is) (last_is_in rest file))

@@ -19,6 +19,7 @@ SomeOf P (Some bytes) = P bytes
 abbrev pub SameSet : (Content → Type 0) → (Content → Type 0) → Type 0
 SameSet old new = (c : Content) → (old c → new c) × (new c → old c)
 
--- what the next start finds where the life ends now: what is seen if the machine goes on, what may be left if it crashes
+-- what the next start finds where the life ends now: what is seen if the machine goes on, what may
+-- be left if it crashes
 abbrev pub IsFound : Content → (Content → Type 0) → Content → Type 0
 IsFound seen may_leave c = (c ≡ seen) ⊎ may_leave c

@@ -3,7 +3,8 @@ use Rattle.std.specs.Prelude.{◌≡◌, ◌≤◌, ◌<◌, ℕ, List, Option, 
 use Rattle.incarnation_file.specs.Disk.{Content}
 use Rattle.incarnation_file.specs.Line.{IsLine}
 
--- a start reads no number below the last one, or is refused; there is no file only where there is no last number
+-- a start reads no number below the last one, or is refused; there is no file only where there is
+-- no last number
 abbrev pub IsAtLeast : List ℕ → ℕ → Content → Type 0
 IsAtLeast server last None = last ≡ 0
 IsAtLeast server last (Some bytes) = (n : ℕ) → IsLine server n bytes → last ≤ n
@@ -12,7 +13,8 @@ IsAtLeast server last (Some bytes) = (n : ℕ) → IsLine server n bytes → las
 abbrev pub IsKept : (Content → Type 0) → List ℕ → ℕ → Type 0
 IsKept found server last = (c : Content) → found c → IsAtLeast server last c
 
--- after a life the last number is the one that was answered, which is above the one before, or is still that one
+-- after a life the last number is the one that was answered, which is above the one before, or is
+-- still that one
 abbrev pub IsAfter : ℕ → Option ℕ → (ℕ → Type 0) → Type 0
 IsAfter last None Kept = Kept last
 IsAfter last (Some n) Kept = (last < n) × Kept n

@@ -19,7 +19,8 @@ number_after None (Some last) = Some (last + 1)
 number_after (Some least) (Some last) = Some (max (last + 1) least)
 
 abbrev pub IsNext : List ℕ → Option ℕ → Content → ℕ → Type 0
-IsNext server least file n = (last : Option ℕ) × IsLast server file last × (number_after least last ≡ Some n)
+IsNext server least file n =
+    (last : Option ℕ) × IsLast server file last × (number_after least last ≡ Some n)
 
 -- there is no incarnation after the last one
 abbrev pub HasNoNext : Option ℕ → Option ℕ → RaiseFault → Type 0
@@ -29,8 +30,10 @@ HasNoNext least last _ = ⊥
 
 -- what a fault of reading the file tells of it
 abbrev pub ReadTells : List ℕ → Content → RaiseFault → Type 0
-ReadTells server file Damaged = SomeOf (λ bytes. (other : List ℕ) (n : ℕ) → IsLine other n bytes → ⊥) file
-ReadTells server file (OtherServer other) = (other ≢ server) × SomeOf (λ bytes. (n : ℕ) × IsLine other n bytes) file
+ReadTells server file Damaged =
+    SomeOf (λ bytes. (other : List ℕ) (n : ℕ) → IsLine other n bytes → ⊥) file
+ReadTells server file (OtherServer other) =
+    (other ≢ server) × SomeOf (λ bytes. (n : ℕ) × IsLine other n bytes) file
 ReadTells server file (Disk _) = Unit {0}
 ReadTells server file OutOfMemory = Unit {0}
 ReadTells server file Missing = ⊥

@@ -37,24 +37,49 @@ pub enum Step {
     SyncFolder,
 }
 
+impl Step {
+    /// The file that it is a step of.
+    fn file(self) -> &'static str {
+        match self {
+            Step::OpenLock | Step::Lock => LOCK_NAME,
+            Step::WriteNew | Step::SyncNew | Step::Rename => NEW_NAME,
+            Step::OpenFolder | Step::Open | Step::Sync | Step::Read | Step::SyncFolder => FILE_NAME,
+        }
+    }
+
+    /// Of what in the way of a file it is one.
+    fn kind(self) -> &'static str {
+        match self {
+            Step::OpenFolder | Step::SyncFolder => "folder of the file",
+            _ => "file",
+        }
+    }
+
+    /// What cannot be done where it fails.
+    fn what(self) -> &'static str {
+        match self {
+            Step::OpenLock | Step::OpenFolder | Step::Open => "opened",
+            Step::Lock => "locked",
+            Step::Sync | Step::SyncNew | Step::SyncFolder => "synced to the disk",
+            Step::Read => "read",
+            Step::WriteNew => "written",
+            Step::Rename => "renamed",
+        }
+    }
+}
+
 impl Display for Step {
     fn fmt<W: Write>(&self, f: &mut Formatter<W>) -> fmt::Result {
+        write!(
+            f,
+            "the {} {} cannot be {}",
+            self.kind(),
+            self.file(),
+            self.what()
+        )?;
         match self {
-            Step::OpenLock => write!(f, "the file {LOCK_NAME} cannot be opened"),
-            Step::Lock => write!(f, "the file {LOCK_NAME} cannot be locked"),
-            Step::OpenFolder => write!(f, "the folder of the file {FILE_NAME} cannot be opened"),
-            Step::Open => write!(f, "the file {FILE_NAME} cannot be opened"),
-            Step::Sync => write!(f, "the file {FILE_NAME} cannot be synced to the disk"),
-            Step::Read => write!(f, "the file {FILE_NAME} cannot be read"),
-            Step::WriteNew => write!(f, "the file {NEW_NAME} cannot be written"),
-            Step::SyncNew => write!(f, "the file {NEW_NAME} cannot be synced to the disk"),
-            Step::Rename => write!(f, "the file {NEW_NAME} cannot be renamed to {FILE_NAME}"),
-            Step::SyncFolder => {
-                write!(
-                    f,
-                    "the folder of the file {FILE_NAME} cannot be synced to the disk"
-                )
-            }
+            Step::Rename => write!(f, " to {FILE_NAME}"),
+            _ => Ok(()),
         }
     }
 }

@@ -27,6 +27,3 @@ pub use file_disk::FileDisk;
 pub use lives::{End, Life, all_lives};
 pub use memory::{Failing, MemoryDisk};
 pub use raising::raise;
-
-#[cfg(test)]
-mod tests;

@@ -6,12 +6,17 @@ use Rattle.mesh_file.specs.declared.faults.ServerFault.TheVariants.{Value}
 use Rattle.mesh_file.specs.declared.faults.ServerKey.{ServerKey}
 use Rattle.mesh_file.specs.declared.faults.ValueFault.TheVariants.{NotText}
 
-pub text_of-none : (key : ServerKey) (name : List ℕ) (table : Members) → name ≡ key_name key → None ≡ get_member name table
+pub text_of-none : (key : ServerKey) (name : List ℕ) (table : Members)
+    → name ≡ key_name key
+    → None ≡ get_member name table
     → text_of key table ≡ Ok None
 text_of-none key name table same found = rw (← same) (rw (← found) refl)
 
-pub text_of-string : (key : ServerKey) (name : List ℕ) (table : Members) (value : Data) (text : List ℕ) → name ≡ key_name key
-    → Some value ≡ get_member name table → Some text ≡ as_str value → text_of key table ≡ Ok (Some text)
+pub text_of-string : (key : ServerKey) (name : List ℕ) (table : Members) (value : Data) (text : List ℕ)
+    → name ≡ key_name key
+    → Some value ≡ get_member name table
+    → Some text ≡ as_str value
+    → text_of key table ≡ Ok (Some text)
 text_of-string key name table value text same found read = rw (← same) (rw (← found) (rw (← read) refl))
 
 pub text_of-other : (key : ServerKey) (name : List ℕ) (table : Members) (value : Data) → name ≡ key_name key

@@ -9,13 +9,17 @@ use Rattle.mesh_file.specs.declared.keys.TableKind.{TableKind}
 
 abbrev pub unknown_among : TableKind → List (String Global) → Option (List ℕ)
 unknown_among kind [] = None
-unknown_among kind (key ∷ keys) = cond (knows kind (string_bytes key)) (unknown_among kind keys) (Some (string_bytes key))
+unknown_among kind (key ∷ keys) =
+    cond (knows kind (string_bytes key)) (unknown_among kind keys) (Some (string_bytes key))
 
-unknown_key-members : (kind : TableKind) (es : List Entry) → unknown_key kind (members_view es) ≡ unknown_among kind (keys_of es)
+unknown_key-members : (kind : TableKind) (es : List Entry)
+    → unknown_key kind (members_view es) ≡ unknown_among kind (keys_of es)
 unknown_key-members kind [] = refl
-unknown_key-members kind (e ∷ es) = ap (λ rest. cond (knows kind (string_bytes e.0)) rest (Some (string_bytes e.0))) (unknown_key-members kind es)
+unknown_key-members kind (e ∷ es) =
+    ap (λ rest. cond (knows kind (string_bytes e.0)) rest (Some (string_bytes e.0))) (unknown_key-members kind es)
 
 -- a pass over the keys begins with all of them
-pub begins : (kind : TableKind) (table : BTreeMap (String Global) Value) (keys : List (String Global)) → keys ≡ keys_of table.entries
+pub begins : (kind : TableKind) (table : BTreeMap (String Global) Value) (keys : List (String Global))
+    → keys ≡ keys_of table.entries
     → unknown_key kind (table_view table) ≡ unknown_among kind keys
 begins kind table keys all = unknown_key-members kind table.entries ∙ ap (unknown_among kind) (sym all)

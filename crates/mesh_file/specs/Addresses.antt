@@ -44,7 +44,8 @@ port_of digits = option_and_then in_port_range (number_of PORT_DIGITS digits)
 
 -- the name of a host and a port, from what stands before the first colon and behind it
 abbrev pub named_parts : List ℕ → List ℕ → Option (List ℕ × ℕ)
-named_parts host digits = if is_host_name host then option_map (λ port. (host, port)) (port_of digits) else None
+named_parts host digits =
+    if is_host_name host then option_map (λ port. (host, port)) (port_of digits) else None
 
 abbrev pub named_address : List ℕ → Option (List ℕ × ℕ)
 named_address text =
@@ -58,7 +59,11 @@ IsNamed text (Name name) port = named_address text ≡ Some (name.bytes, port)
 
 -- the text is the address of a host, by number or by name, and a port from 1
 abbrev pub IsRouteTo : List ℕ → RouteHost → ℕ → Type 0
-IsRouteTo text (Ip ip) port = (address : SocketAddr) × IsSocket text address × (socket_ip address ≡ ip) × (socket_port address ≡ port)
+IsRouteTo text (Ip ip) port =
+    (address : SocketAddr)
+    × IsSocket text address
+    × (socket_ip address ≡ ip)
+    × (socket_port address ≡ port)
 IsRouteTo text (Name name) port = named_address text ≡ Some (name.bytes, port)
 
 abbrev pub IsRoute : List ℕ → RouteAddress → Type 0
@@ -136,7 +141,9 @@ abbrev pub is_wildcard_host : RouteHost → Bool
 is_wildcard_host (Ip ip) = is_wildcard ip
 is_wildcard_host (Name name) = false
 
--- routes want the port that clients have, at an address that is the same, or that is among all of the machine
+-- routes want the port that clients have, at an address that is the same, or that is among all of
+-- the machine
 abbrev pub may_clash : SocketAddr → RouteAddress → Bool
 may_clash clients routes =
-    nat_eq (socket_port clients) routes.port && (is_wildcard (socket_ip clients) || is_at routes.host (socket_ip clients))
+    nat_eq (socket_port clients) routes.port
+    && (is_wildcard (socket_ip clients) || is_at routes.host (socket_ip clients))

@@ -43,7 +43,9 @@ abbrev pub present : ServerKey → Option (List ℕ) → Result (List ℕ) Serve
 present key None = Err (Value key Missing)
 present key (Some text) = Ok text
 
-abbrev pub needed_in : ServerKey → Result (Option (List ℕ)) ServerFault → Result (List ℕ) ServerFault
+abbrev pub needed_in : ServerKey
+    → Result (Option (List ℕ)) ServerFault
+    → Result (List ℕ) ServerFault
 needed_in key (Ok text) = present key text
 needed_in key (Err fault) = Err fault
 
@@ -55,7 +57,8 @@ needed_text key table = needed_in key (text_of key table)
 abbrev pub IsRefused : ServerKey → (List ℕ → Type 0) → Members → ServerFault → Type 0
 IsRefused key IsBad table fault =
     (needed_text key table ≡ Err fault)
-    ⊎ ((text : List ℕ) × (needed_text key table ≡ Ok text) × IsBad text × (fault ≡ Value key BadForm))
+    ⊎ ((text : List ℕ) × (needed_text key table ≡ Ok text) × IsBad text
+    × (fault ≡ Value key BadForm))
 
 -- ---- each key
 
@@ -66,13 +69,15 @@ abbrev pub IsNoName : Members → ServerFault → Type 0
 IsNoName table fault = IsRefused Name (λ text. IsSome (node_name_fault text)) table fault
 
 abbrev pub IsClients : Members → SocketAddr → Type 0
-IsClients table clients = (text : List ℕ) × (needed_text Clients table ≡ Ok text) × IsSocket text clients
+IsClients table clients =
+    (text : List ℕ) × (needed_text Clients table ≡ Ok text) × IsSocket text clients
 
 abbrev pub IsNoClients : Members → ServerFault → Type 0
 IsNoClients table fault = IsRefused Clients IsNoSocket table fault
 
 abbrev pub IsRouteText : Members → RouteAddress → Type 0
-IsRouteText table routes = (text : List ℕ) × (needed_text Routes table ≡ Ok text) × IsRoute text routes
+IsRouteText table routes =
+    (text : List ℕ) × (needed_text Routes table ≡ Ok text) × IsRoute text routes
 
 -- others have to connect there, so it is no wildcard
 abbrev pub IsRoutes : Members → RouteAddress → Type 0
@@ -81,11 +86,14 @@ IsRoutes table routes = IsRouteText table routes × (is_wildcard_host routes.hos
 abbrev pub IsNoRoutes : Members → ServerFault → Type 0
 IsNoRoutes table fault =
     IsRefused Routes IsNoRoute table fault
-    ⊎ ((routes : RouteAddress) × IsRouteText table routes × (is_wildcard_host routes.host ≡ true) × (fault ≡ WildcardRoutes))
+    ⊎ ((routes : RouteAddress) × IsRouteText table routes × (is_wildcard_host routes.host ≡ true)
+    × (fault ≡ WildcardRoutes))
 
 -- too long, or neither a name nor an IP address
 abbrev pub IsNoHost : List ℕ → Type 0
-IsNoHost text = (MAX_HOST < length text) ⊎ ((is_host_name text ≡ false) × ((ip : IpAddr) → ¬ (IsIpText text ip)))
+IsNoHost text =
+    (MAX_HOST < length text)
+    ⊎ ((is_host_name text ≡ false) × ((ip : IpAddr) → ¬ (IsIpText text ip)))
 
 abbrev pub IsAdvertise : Members → Option ArrayString → Type 0
 IsAdvertise table None = text_of Advertise table ≡ Ok None
@@ -94,7 +102,8 @@ IsAdvertise table (Some host) = (text_of Advertise table ≡ Ok (Some host.bytes
 abbrev pub IsNoAdvertise : Members → ServerFault → Type 0
 IsNoAdvertise table fault =
     (text_of Advertise table ≡ Err fault)
-    ⊎ ((text : List ℕ) × (text_of Advertise table ≡ Ok (Some text)) × IsNoHost text × (fault ≡ Value Advertise BadForm))
+    ⊎ ((text : List ℕ) × (text_of Advertise table ≡ Ok (Some text)) × IsNoHost text
+    × (fault ≡ Value Advertise BadForm))
 
 -- ---- all keys
 
@@ -123,20 +132,26 @@ pub data IsNotRead (table : Members) (fault : ServerFault) : Type 0 where
   no_name : IsNoName table fault → IsNotRead table fault
   no_clients : HasName table → IsNoClients table fault → IsNotRead table fault
   no_routes : HasName table → HasClients table → IsNoRoutes table fault → IsNotRead table fault
-  no_advertise : HasName table → HasClients table → HasRoutes table → IsNoAdvertise table fault → IsNotRead table fault
+  no_advertise : HasName table → HasClients table → HasRoutes table → IsNoAdvertise table fault
+      → IsNotRead table fault
 
 -- then comes an unknown key, and then the ports
 pub data IsFirstFault (table : Members) (fault : ServerFault) : Type 0 where
   no_key : IsNotRead table fault → IsFirstFault table fault
-  unknown : (server : MeshServer) → IsRead table server → (told : ArrayString) → TellsUnknown kind.Server table told.bytes
-      → fault ≡ UnknownKey told → IsFirstFault table fault
+  unknown : (server : MeshServer)
+      → IsRead table server
+      → (told : ArrayString)
+      → TellsUnknown kind.Server table told.bytes
+      → fault ≡ UnknownKey told
+      → IsFirstFault table fault
   one_port : (server : MeshServer) → IsRead table server → unknown_key kind.Server table ≡ None
       → may_clash server.clients server.routes ≡ true → fault ≡ OnePort → IsFirstFault table fault
 
 -- ---- an entry of `server`
 
 abbrev pub IsServerIn : Data → MeshServer → Type 0
-IsServerIn entry server = (table : Members) × (as_table entry ≡ Some table) × IsServerOf table server
+IsServerIn entry server =
+    (table : Members) × (as_table entry ≡ Some table) × IsServerOf table server
 
 abbrev pub IsNoServer : Data → ServerFault → Type 0
 IsNoServer entry fault =

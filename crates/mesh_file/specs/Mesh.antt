@@ -50,7 +50,8 @@ mesh_table file = mesh_in (get_member (codes "mesh") file)
 
 abbrev pub shards_within : Option ℤ → Option ℕ
 shards_within None = None
-shards_within (Some (pos shards)) = if nat_le 1 shards && nat_le shards MAX_SHARDS then Some shards else None
+shards_within (Some (pos shards)) =
+    if nat_le 1 shards && nat_le shards MAX_SHARDS then Some shards else None
 shards_within (Some (negsuc shards)) = None
 
 abbrev pub shards_in : Option Data → Option ℕ
@@ -78,12 +79,20 @@ pub record AreKeys (table : Members) (shards : ℕ) (secret_file : Option (List 
 
 pub data IsKeyFault (table : Members) (fault : MeshFault) : Type 0 where
   bad_shards : shards_of table ≡ None → fault ≡ Shards → IsKeyFault table fault
-  bad_secret_file : IsSome (shards_of table) → secret_of table ≡ None → fault ≡ SecretFile → IsKeyFault table fault
-  unknown_in_mesh : IsSome (shards_of table) → IsSome (secret_of table) → (told : ArrayString) → TellsUnknown kind.Mesh table told.bytes
-      → fault ≡ UnknownMeshKey told → IsKeyFault table fault
+  bad_secret_file : IsSome (shards_of table)
+      → secret_of table ≡ None
+      → fault ≡ SecretFile
+      → IsKeyFault table fault
+  unknown_in_mesh : IsSome (shards_of table)
+      → IsSome (secret_of table)
+      → (told : ArrayString)
+      → TellsUnknown kind.Mesh table told.bytes
+      → fault ≡ UnknownMeshKey told
+      → IsKeyFault table fault
 
 abbrev pub IsHead : Members → ℕ → Option (List ℕ) → Type 0
-IsHead file shards secret_file = (table : Members) × (mesh_table file ≡ Some table) × AreKeys table shards secret_file
+IsHead file shards secret_file =
+    (table : Members) × (mesh_table file ≡ Some table) × AreKeys table shards secret_file
 
 abbrev pub IsNoHead : Members → MeshFault → Type 0
 IsNoHead file fault =
@@ -99,18 +108,33 @@ pub record AreEntries (file : Members) (entries : List Data) : Type 0 where
   pub few : length entries ≤ MAX_NODES
 
 pub data IsEntriesFault (file : Members) (fault : MeshFault) : Type 0 where
-  unknown_in_file : (told : ArrayString) → TellsUnknown kind.File file told.bytes → fault ≡ UnknownKey told → IsEntriesFault file fault
-  no_entries : unknown_key kind.File file ≡ None → get_member (codes "server") file ≡ None → fault ≡ ServerCount 0 → IsEntriesFault file fault
-  no_array : unknown_key kind.File file ≡ None → (value : Data) → get_member (codes "server") file ≡ Some value → as_array value ≡ None
-      → fault ≡ ServersNotArray → IsEntriesFault file fault
-  bad_count : unknown_key kind.File file ≡ None → (entries : List Data) → get_member (codes "server") file ≡ Some (array (items_of entries))
-      → (length entries ≡ 0) ⊎ (MAX_NODES < length entries) → fault ≡ ServerCount (length entries) → IsEntriesFault file fault
+  unknown_in_file : (told : ArrayString)
+      → TellsUnknown kind.File file told.bytes
+      → fault ≡ UnknownKey told
+      → IsEntriesFault file fault
+  no_entries : unknown_key kind.File file ≡ None
+      → get_member (codes "server") file ≡ None
+      → fault ≡ ServerCount 0
+      → IsEntriesFault file fault
+  no_array : unknown_key kind.File file ≡ None
+      → (value : Data)
+      → get_member (codes "server") file ≡ Some value
+      → as_array value ≡ None
+      → fault ≡ ServersNotArray
+      → IsEntriesFault file fault
+  bad_count : unknown_key kind.File file ≡ None
+      → (entries : List Data)
+      → get_member (codes "server") file ≡ Some (array (items_of entries))
+      → (length entries ≡ 0) ⊎ (MAX_NODES < length entries)
+      → fault ≡ ServerCount (length entries)
+      → IsEntriesFault file fault
 
 -- ---- the servers
 
 -- the servers, and behind them that of an entry
 abbrev pub AddsServer : Data → List MeshServer → List MeshServer → Type 0
-AddsServer entry old new = (server : MeshServer) × IsServerIn entry server × IsServer server × (new ≡ old ++ server ∷ [])
+AddsServer entry old new =
+    (server : MeshServer) × IsServerIn entry server × IsServer server × (new ≡ old ++ server ∷ [])
 
 -- the entry at this place, counted from 0, is the first that is no server
 pub record IsFirstEntryFault (entries : List Data) (fault : MeshFault) : Type 0 where
@@ -159,7 +183,11 @@ HasHead file = (shards : ℕ) × (secret_file : Option (List ℕ)) × IsHead fil
 pub data IsFileFault (file : Members) (fault : MeshFault) : Type 0 where
   bad_head : IsNoHead file fault → IsFileFault file fault
   bad_entries : HasHead file → IsEntriesFault file fault → IsFileFault file fault
-  bad_servers : HasHead file → (entries : List Data) → AreEntries file entries → IsServersFault entries fault → IsFileFault file fault
+  bad_servers : HasHead file
+      → (entries : List Data)
+      → AreEntries file entries
+      → IsServersFault entries fault
+      → IsFileFault file fault
 
 -- a refusal is so; want of memory says nothing
 abbrev pub IsFailure : (MeshFault → Type 0) → Failure MeshFault → Type 0

@@ -19,7 +19,8 @@ IsEarlier p q = (p.0 < q.0) ⊎ ((p.0 ≡ q.0) × (p.1 < q.1))
 pub record IsFirstPair (shared : Shared) (servers : List MeshServer) (pair : ℕ × ℕ) : Type 0 where
   pub rising : pair.0 < pair.1
   pub within : pair.1 < length servers
-  pub shared_by : (d : MeshServer) → shares shared (slice_index_or servers pair.0 d) (slice_index_or servers pair.1 d) ≡ true
+  pub shared_by : (d : MeshServer)
+      → shares shared (slice_index_or servers pair.0 d) (slice_index_or servers pair.1 d) ≡ true
   pub first : (i j : ℕ) (d : MeshServer) → i < j → j < length servers → IsEarlier (i, j) pair
       → shares shared (slice_index_or servers i d) (slice_index_or servers j d) ≡ false
 
@@ -38,4 +39,7 @@ pub record AllApart (servers : List MeshServer) : Type 0 where
 pub data IsFirstShared (servers : List MeshServer) (pair : Pair) : Type 0 where
   same_names : IsPairOf Name servers pair → IsFirstShared servers pair
   same_routes : AreApart Name servers → IsPairOf Routes servers pair → IsFirstShared servers pair
-  same_clients : AreApart Name servers → AreApart Routes servers → IsPairOf Clients servers pair → IsFirstShared servers pair
+  same_clients : AreApart Name servers
+      → AreApart Routes servers
+      → IsPairOf Clients servers pair
+      → IsFirstShared servers pair

@@ -7,7 +7,7 @@ ghost use Rattle.mesh_file.specs.Entries.{key_name};
 use arrayvec::ArrayString;
 use std::error::Error;
 use std::fmt;
-use std::fmt::{Display, Formatter, InlineText, Write};
+use std::fmt::{Debug, Display, Formatter, InlineText, Write};
 use subj::{MAX_NODE_NAME, MAX_NODES, MAX_SHARDS};
 
 /// The most bytes of an unknown key that are told.
@@ -28,7 +28,7 @@ pub(crate) fn key_text(key: &str) -> KeyText
 }
 
 /// A key of a server, in the order in which they are read.
-#[derive(Clone, Copy, Debug)]
+#[derive(Clone, Copy)]
 pub enum ServerKey {
     Name,
     Clients,
@@ -79,7 +79,7 @@ impl Display for Wanted {
 }
 
 /// What is wrong with the value of a key.
-#[derive(Clone, Copy, Debug)]
+#[derive(Clone, Copy)]
 pub enum ValueFault {
     /// The key has to be there, and is not.
     Missing,
@@ -100,7 +100,7 @@ impl ValueFault {
 }
 
 /// What two servers may not share, in the order in which it is looked for.
-#[derive(Clone, Copy, Debug)]
+#[derive(Clone, Copy)]
 pub enum Shared {
     /// The name, byte for byte.
     Name,
@@ -121,15 +121,27 @@ impl Shared {
 }
 
 /// Two servers that share what they may not, by their places in the file, counted from 1.
-#[derive(Clone, Copy, Debug)]
+#[derive(Clone, Copy)]
 pub struct Pair {
     pub shared: Shared,
     pub first: usize,
     pub second: usize,
 }
 
+impl Display for Pair {
+    fn fmt<W: Write>(&self, f: &mut Formatter<W>) -> fmt::Result {
+        write!(
+            f,
+            "server[{}].{}: the same as of server[{}]; each server wants its own",
+            self.second,
+            self.shared.key().text(),
+            self.first
+        )
+    }
+}
+
 /// What is wrong with one server. (Profile.)
-#[derive(Clone, Copy, Debug)]
+#[derive(Clone, Copy)]
 pub enum ServerFault {
     /// The entry is no table.
     NotTable,
@@ -141,6 +153,16 @@ pub enum ServerFault {
     UnknownKey(KeyText),
     /// Clients and routes have one port, at addresses that may be the same.
     OnePort,
+}
+
+/// Tells of a key that a table, which is named before it, does not have; of those that it has, the names.
+fn tell_unknown<W: Write>(
+    f: &mut Formatter<W>,
+    table: &str,
+    key: &KeyText,
+    known: &str,
+) -> fmt::Result {
+    write!(f, "{table}unknown key {key:?}; {known} are wanted")
 }
 
 impl Display for ServerFault {
@@ -156,10 +178,9 @@ impl Display for ServerFault {
                 ".routes: a wildcard address; \
                  the one is wanted at which other servers reach this one",
             ),
-            ServerFault::UnknownKey(key) => write!(
-                f,
-                ": unknown key {key:?}; name, clients, routes and advertise are wanted"
-            ),
+            ServerFault::UnknownKey(key) => {
+                tell_unknown(f, ": ", key, "name, clients, routes and advertise")
+            }
             ServerFault::OnePort => f.write_str(
                 ".routes: the port of clients, at an address that may be the same; \
                  another port is wanted",
@@ -173,7 +194,7 @@ impl Display for ServerFault {
 /// The first fault is told, in the order in which they stand here: syntax; then the keys of `mesh`; an unknown key beside `mesh` and
 /// `server`; the number of servers; then each server in the order of the file, by its keys in the order of [`ServerKey`], an unknown key,
 /// and its ports; and last what two servers share, in the order of [`Shared`].
-#[derive(Clone, Copy, Debug)]
+#[derive(Clone, Copy)]
 pub enum MeshFault {
     /// The text is no TOML. The line is counted from 1.
     Syntax { line: usize, cause: toml::de::Error },
@@ -212,13 +233,10 @@ impl Display for MeshFault {
             MeshFault::SecretFile => f.write_str(
                 "mesh.secret_file: the path of a file is wanted, a string of one byte or more",
             ),
-            MeshFault::UnknownMeshKey(key) => write!(
-                f,
-                "mesh: unknown key {key:?}; shards and secret_file are wanted"
-            ),
-            MeshFault::UnknownKey(key) => {
-                write!(f, "unknown key {key:?}; mesh and server are wanted")
+            MeshFault::UnknownMeshKey(key) => {
+                tell_unknown(f, "mesh: ", key, "shards and secret_file")
             }
+            MeshFault::UnknownKey(key) => tell_unknown(f, "", key, "mesh and server"),
             MeshFault::ServersNotArray => f.write_str(
                 "server: not an array; each server is wanted as [[server]]",
             ),
@@ -226,14 +244,15 @@ impl Display for MeshFault {
                 write!(f, "server: there are {count}; 1 to {MAX_NODES} are wanted")
             }
             MeshFault::Server { number, fault } => write!(f, "server[{number}]{fault}"),
-            MeshFault::Pair(pair) => write!(
-                f,
-                "server[{}].{}: the same as of server[{}]; each server wants its own",
-                pair.second,
-                pair.shared.key().text(),
-                pair.first
-            ),
+            MeshFault::Pair(pair) => Display::fmt(pair, f),
         }
+    }
+}
+
+/// As it is told.
+impl Debug for MeshFault {
+    fn fmt<W: Write>(&self, f: &mut Formatter<W>) -> fmt::Result {
+        Display::fmt(self, f)
     }
 }
 

@@ -1,9 +1,9 @@
 //! Which keys a table may have.
 
-ghost use Rattle.std.specs.Prelude.{◌≡◌, None, MatchOption, option_map};
+ghost use Rattle.std.specs.Prelude.{◌≡◌, None, MatchOption, map, option_map};
 ghost use Rattle.toml.specs.Data.{get_member};
 ghost use Rattle.toml.specs.View.{view, table_view};
-ghost use Rattle.mesh_file.specs.Keys.{knows as knows_key, unknown_key as unknown_in, TellsUnknown};
+ghost use Rattle.mesh_file.specs.Keys.{keys_of, knows as knows_key, unknown_key as unknown_in, TellsUnknown};
 
 use crate::faults::{KeyText, key_text};
 use toml::{Table, Value};
@@ -17,17 +17,22 @@ pub(crate) enum TableKind {
 }
 
 impl TableKind {
+    /// The keys that such a table may have.
+    fn keys(self) -> &'static [&'static str]
+        ensures { map (λ key. key.now) result.now ≡ keys_of self }
+    {
+        match self {
+            TableKind::File => &["mesh", "server"],
+            TableKind::Mesh => &["shards", "secret_file"],
+            TableKind::Server => &["name", "clients", "routes", "advertise"],
+        }
+    }
+
     /// Whether such a table may have the key.
     fn knows(self, key: &str) -> bool
         ensures { result ≡ knows_key self key.now }
     {
-        match self {
-            TableKind::File => key == "mesh" || key == "server",
-            TableKind::Mesh => key == "shards" || key == "secret_file",
-            TableKind::Server => {
-                key == "name" || key == "clients" || key == "routes" || key == "advertise"
-            }
-        }
+        self.keys().contains(&key)
     }
 }
 

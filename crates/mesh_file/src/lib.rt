@@ -22,8 +22,6 @@ mod mesh;
 mod pairs;
 mod servers;
 mod tables;
-#[cfg(test)]
-mod tests;
 
 pub use addresses::{RouteAddress, RouteHost};
 pub use faults::{

@@ -34,9 +34,18 @@ impl Model for MeshFile {
 
     ghost Value = { Mesh };
 
-    ghost view = { λ mesh. record { shards = mesh.shards; secret_file = option_map string_bytes mesh.secret_file; servers = mesh.servers.items } };
+    ghost view = { λ mesh. record {
+      shards = mesh.shards;
+      secret_file = option_map string_bytes mesh.secret_file;
+      servers = mesh.servers.items;
+    } };
 
-    ghost invariant = { λ mesh. IsMesh (record { shards = mesh.shards; secret_file = option_map string_bytes mesh.secret_file; servers = mesh.servers.items }) };
+    ghost invariant = { λ mesh.
+        IsMesh (record {
+          shards = mesh.shards;
+          secret_file = option_map string_bytes mesh.secret_file;
+          servers = mesh.servers.items;
+        }) };
 }
 
 /// A copy of a text, where there is one.
@@ -135,15 +144,26 @@ impl Display for Counted<'_> {
     }
 }
 
+/// Where the secret of the routes is kept, where there is one.
+#[derive(Clone, Copy)]
+struct Secret<'a>(Option<&'a str>);
+
+impl Display for Secret<'_> {
+    fn fmt<W: Write>(&self, f: &mut Formatter<W>) -> fmt::Result {
+        match self.0 {
+            None => f.write_str("no secret: peers are known by their addresses alone"),
+            Some(path) => write!(f, "secret in {path}"),
+        }
+    }
+}
+
 /// What `check` tells: a line for the mesh, and one for each server in order, each with its end.
 impl Display for MeshFile {
     fn fmt<W: Write>(&self, f: &mut Formatter<W>) -> fmt::Result {
         let servers = Counted(self.servers.len() as u64, "server");
-        write!(f, "mesh {servers}, {}, ", Counted(self.shards, "shard"))?;
-        match self.secret_file() {
-            None => f.write_str("no secret: peers are known by their addresses alone\n")?,
-            Some(path) => writeln!(f, "secret in {path}")?,
-        }
+        let shards = Counted(self.shards, "shard");
+        let secret = Secret(self.secret_file());
+        writeln!(f, "mesh {servers}, {shards}, {secret}")?;
         for server in &self.servers {
             writeln!(f, "{server}")?;
         }

@@ -257,6 +257,5 @@ impl golden::Rig for Rig {
 }
 
 fn main(rt: HostRuntime) -> ExitCode {
-    let mut rig = Rig::new(rt.alloc());
-    golden::play(&rt, &mut rig)
+    golden::play(&rt, Rig::new(rt.alloc()))
 }

@@ -16,24 +16,34 @@ text_read : (text : Text) (r : Option ℕ) → IsNumber text → ReadsOne Gives 
 text_read text (Some v) is read = ap (λ n. Some n) (sym read.0.1)
 text_read text None is read = absurd (read.1.0 (is.0, is.1))
 
-option_read : (o : Option Text) (r : Option ℕ) → (o ≡ None → r ≡ None) → ((t : Text) → o ≡ Some t → ReadsOne Gives t r) → IfSome o IsNumber
+option_read : (o : Option Text) (r : Option ℕ)
+    → (o ≡ None → r ≡ None)
+    → ((t : Text) → o ≡ Some t → ReadsOne Gives t r)
+    → IfSome o IsNumber
     → option_map number_of o ≡ r
 option_read None r none some is = sym (none refl)
 option_read (Some t) r none some is = text_read t r is (some t refl)
 
 -- an option that has a number where it has a text
-pub number_if_read : (f : Found) (name : Text) (r : Option ℕ) → (one_text f name ≡ None → r ≡ None)
-    → ((t : Text) → one_text f name ≡ Some t → ReadsOne Gives t r) → IfSome (one_of name (rows_of f)) IsNumber → number_in name (rows_of f) ≡ r
+pub number_if_read : (f : Found) (name : Text) (r : Option ℕ)
+    → (one_text f name ≡ None → r ≡ None)
+    → ((t : Text) → one_text f name ≡ Some t → ReadsOne Gives t r)
+    → IfSome (one_of name (rows_of f)) IsNumber
+    → number_in name (rows_of f) ≡ r
 number_if_read f name r none some is =
-    option_read (one_of name (rows_of f)) r (λ e. none (one_text-rows f name ∙ e)) (λ t e. some t (one_text-rows f name ∙ e)) is
+    option_read (one_of name (rows_of f)) r (λ e. none (one_text-rows f name ∙ e))
+    (λ t e. some t (one_text-rows f name ∙ e)) is
 
 if_there : (o : Option Text) → IsSomeAnd o IsNumber → IfSome o IsNumber
 if_there None is = absurd is
 if_there (Some t) is = is
 
 -- an option that has a number
-pub number_read : (f : Found) (name : Text) (r : Option ℕ) → (one_text f name ≡ None → r ≡ None)
-    → ((t : Text) → one_text f name ≡ Some t → ReadsOne Gives t r) → HasNumber name (rows_of f) → number_in name (rows_of f) ≡ r
+pub number_read : (f : Found) (name : Text) (r : Option ℕ)
+    → (one_text f name ≡ None → r ≡ None)
+    → ((t : Text) → one_text f name ≡ Some t → ReadsOne Gives t r)
+    → HasNumber name (rows_of f)
+    → number_in name (rows_of f) ≡ r
 number_read f name r none some has = number_if_read f name r none some (if_there (one_of name (rows_of f)) has)
 
 there : (o : Option Text) (r : Option ℕ) → IsSomeAnd o IsNumber → option_map number_of o ≡ r → IsSome r

@@ -1,4 +1,5 @@
--- The rows of arguments that take one value each: where a level has no fault, the first value of each row passes the parser of its argument.
+-- The rows of arguments that take one value each: where a level has no fault, the first value of each row passes the
+-- parser of its argument.
 use Rattle.std.proofs.Common.{◌≡◌, ◌∙◌, Bool, cond, true, false, refl, sym, ap, true≢false, arith, length, ne_eqb, List, [], ◌∷◌, ◌++◌, Option, Some, None}
 use Rattle.std.specs.Prelude.{IfSome, is_some, option_map, slice_get, find, ◌||◌}
 use Rattle.std.specs.List.{fold}
@@ -38,12 +39,18 @@ each_joined : {X : Type 0} (P : X → Type 0) (xs ys : List X) → Each P xs →
 each_joined P [] ys a b = b
 each_joined P (x ∷ xs) ys a b = (a.0, each_joined P xs ys a.1 b)
 
-row_keeps : (P : Row → Type 0) (id : Text) (change : Row → List Row) (missing rows : List Row) → ((r : Row) → P r → Each P (change r))
-    → Each P missing → Each P rows → Each P (at_row id change missing rows)
+row_keeps : (P : Row → Type 0) (id : Text) (change : Row → List Row) (missing rows : List Row)
+    → ((r : Row) → P r → Each P (change r))
+    → Each P missing
+    → Each P rows
+    → Each P (at_row id change missing rows)
 row_keeps P id change missing [] changed more all = more
-row_keeps P id change missing (r ∷ rs) changed more all = go (bytes_eq r.id id) (row_keeps P id change missing rs changed more all.1)
+row_keeps P id change missing (r ∷ rs) changed more all =
+    go (bytes_eq r.id id) (row_keeps P id change missing rs changed more all.1)
   where
-    go : (b : Bool) → Each P (at_row id change missing rs) → Each P (cond b (change r ++ rs) (r ∷ at_row id change missing rs))
+    go : (b : Bool)
+        → Each P (at_row id change missing rs)
+        → Each P (cond b (change r ++ rs) (r ∷ at_row id change missing rs))
     go true rest = each_joined P (change r) rs (changed r all.0) all.1
     go false rest = (all.0, rest)
 
@@ -59,8 +66,11 @@ more_fits (Some a) r source more h = (h.0, first_stays a r.values more h.1)
 fits_alone : (c : List Rule) (a : Rule) (r : Row) → arg_by_id c r.id ≡ Some a → Reads a r → RowFits c r
 fits_alone c a r own h = rw own h
 
-values_fit : (c : List Rule) (a : Rule) (source : ValueSource) (v : Text) (vs : List Text) (rows : List Row) → arg_by_id c a.id ≡ Some a → Passes a v
-    → Each (RowFits c) rows → Each (RowFits c) (with_values a.id (reading_by a) source (v ∷ vs) rows)
+values_fit : (c : List Rule) (a : Rule) (source : ValueSource) (v : Text) (vs : List Text) (rows : List Row)
+    → arg_by_id c a.id ≡ Some a
+    → Passes a v
+    → Each (RowFits c) rows
+    → Each (RowFits c) (with_values a.id (reading_by a) source (v ∷ vs) rows)
 values_fit c a source v vs rows own passes all =
     let new : Row = record { id = a.id; values = v ∷ vs; count = None; source = Some source; reading = reading_by a } in
     row_keeps (RowFits c) a.id (more_values source (v ∷ vs)) (new ∷ []) rows
@@ -83,7 +93,9 @@ one_value a = record a {
 abbrev pub for_help : Rule → Rule
 for_help a = record a { action = Some Help }
 
-pub value_keeps : (again : Bool) (c : List Rule) (a : Rule) → arg_by_id c (one_value a).id ≡ Some (one_value a) → Keeps again (Each (RowFits c)) (one_value a)
+pub value_keeps : (again : Bool) (c : List Rule) (a : Rule)
+    → arg_by_id c (one_value a).id ≡ Some (one_value a)
+    → Keeps again (Each (RowFits c)) (one_value a)
 value_keeps again c a own [] rows e all = let bad : ⊥ = cc in absurd bad
 value_keeps again c a own (v ∷ vs) rows e all =
     let used = (both_pass _ _ e).1 in
@@ -99,14 +111,16 @@ help_keeps again R a values rows e r =
 pub default_keeps : (c : List Rule) (a : Rule) → arg_by_id c a.id ≡ Some a → KeepsDefault (Each (RowFits c)) a
 default_keeps c a own rows e all = go (has_row a.id rows) a.defaults e
   where
-    go : (b : Bool) (ds : List Text) → cond (b || is_empty ds) [] (or_else (request_kinds (action_of a)) (values_fault a ds)) ≡ []
+    go : (b : Bool) (ds : List Text)
+        → cond (b || is_empty ds) [] (or_else (request_kinds (action_of a)) (values_fault a ds)) ≡ []
         → Each (RowFits c) (cond b rows (default_rows a.id (reading_by a) ds rows))
     go true ds h = all
     go false [] h = all
     go false (v ∷ vs) h =
         let full : is_empty (v ∷ vs) ≡ false = ne_eqb (length (v ∷ vs)) 0 (λ z. omega arith) in
         let passed = (both_pass (request_kinds (action_of a)) (values_fault a (v ∷ vs)) (rw full at h)).1 in
-        values_fit c a DefaultValue v vs rows own (both_pass (value_kinds a.ignore_case (parser_of_value a.parser) v) _ passed).0 all
+        values_fit c a DefaultValue v vs rows own
+        (both_pass (value_kinds a.ignore_case (parser_of_value a.parser) v) _ passed).0 all
 
 -- ---- rows that are there
 
@@ -127,7 +141,8 @@ values_stay id key how source vs (r ∷ rs) e = go (bytes_eq r.id key) (values_s
     go true later = e
     go false later = either (bytes_eq r.id id) (has_row id rs) (has_row id (with_values key how source vs rs)) later e
 
-values_come : (id : Text) (how : Reading) (source : ValueSource) (vs : List Text) (rows : List Row) → has_row id (with_values id how source vs rows) ≡ true
+values_come : (id : Text) (how : Reading) (source : ValueSource) (vs : List Text) (rows : List Row)
+    → has_row id (with_values id how source vs rows) ≡ true
 values_come id how source vs [] = rw (same_text id) refl
 values_come id how source vs (r ∷ rs) = go (bytes_eq r.id id) refl (values_come id how source vs rs)
   where
@@ -136,7 +151,9 @@ values_come id how source vs (r ∷ rs) = go (bytes_eq r.id id) refl (values_com
     go true e later = rw e refl
     go false e later = rw e later
 
-default_stays : (id : Text) (a : Rule) (rows : List Row) → has_row id rows ≡ true → has_row id (with_default rows a) ≡ true
+default_stays : (id : Text) (a : Rule) (rows : List Row)
+    → has_row id rows ≡ true
+    → has_row id (with_default rows a) ≡ true
 default_stays id a rows e = go (has_row a.id rows) a.defaults
   where
     go : (b : Bool) (ds : List Text) → has_row id (cond b rows (default_rows a.id (reading_by a) ds rows)) ≡ true
@@ -145,22 +162,29 @@ default_stays id a rows e = go (has_row a.id rows) a.defaults
     go false (v ∷ vs) = values_stay id a.id (reading_by a) DefaultValue (v ∷ vs) rows e
 
 -- a row stays where defaults are filled in
-pub defaults_stay : (id : Text) (rules : List Rule) (rows : List Row) → has_row id rows ≡ true → has_row id (fold with_default rows rules) ≡ true
+pub defaults_stay : (id : Text) (rules : List Rule) (rows : List Row)
+    → has_row id rows ≡ true
+    → has_row id (fold with_default rows rules) ≡ true
 defaults_stay id [] rows e = e
 defaults_stay id (a ∷ rest) rows e = defaults_stay id rest (with_default rows a) (default_stays id a rows e)
 
 -- an argument that has a default has a row
-pub default_comes : (a : Rule) (v : Text) (rows : List Row) → has_row a.id (with_default rows (record a { defaults = v ∷ [] })) ≡ true
+pub default_comes : (a : Rule) (v : Text) (rows : List Row)
+    → has_row a.id (with_default rows (record a { defaults = v ∷ [] })) ≡ true
 default_comes a v rows = go (has_row a.id rows) refl
   where
-    go : (b : Bool) → has_row a.id rows ≡ b → has_row a.id (cond b rows (with_values a.id (reading_by a) DefaultValue (v ∷ []) rows)) ≡ true
+    go : (b : Bool)
+        → has_row a.id rows ≡ b
+        → has_row a.id (cond b rows (with_values a.id (reading_by a) DefaultValue (v ∷ []) rows)) ≡ true
     go true e = e
     go false e = values_come a.id (reading_by a) DefaultValue (v ∷ []) rows
 
 -- ---- what is read
 
 -- the first row of an argument reads as its parser says
-pub row_of_rule : (c : List Rule) (id : Text) (a : Rule) (rows : List Row) → arg_by_id c id ≡ Some a → Each (RowFits c) rows
+pub row_of_rule : (c : List Rule) (id : Text) (a : Rule) (rows : List Row)
+    → arg_by_id c id ≡ Some a
+    → Each (RowFits c) rows
     → IfSome (find (λ r. bytes_eq r.id id) rows) (Reads a)
 row_of_rule c id a [] own all = tt
 row_of_rule c id a (r ∷ rs) own all = go (bytes_eq r.id id) refl (row_of_rule c id a rs own all.1)
@@ -174,26 +198,36 @@ row_of_rule c id a (r ∷ rs) own all = go (bytes_eq r.id id) refl (row_of_rule 
     go false e rest = rest
 
 -- its text, as `get_str` and `get_one` read it
-pub text_of_row : (a : Rule) (r : Row) → Reads a r → (t : Text) × (slice_get r.values 0 ≡ Some t) × (row_text r ≡ Some (read_as (reading_by a) t)) × Passes a t
+pub text_of_row : (a : Rule) (r : Row)
+    → Reads a r
+    → (t : Text) × (slice_get r.values 0 ≡ Some t) × (row_text r ≡ Some (read_as (reading_by a) t)) × Passes a t
 text_of_row a r h = go r.values h.1
   where
-    go : (vs : List Text) → FirstPasses a vs
-        → (t : Text) × (slice_get vs 0 ≡ Some t) × (option_map (read_as r.reading) (slice_get vs 0) ≡ Some (read_as (reading_by a) t)) × Passes a t
+    go : (vs : List Text)
+        → FirstPasses a vs
+        → (t : Text) × (slice_get vs 0 ≡ Some t)
+        × (option_map (read_as r.reading) (slice_get vs 0) ≡ Some (read_as (reading_by a) t)) × Passes a t
     go [] bad = absurd bad
     go (v ∷ vs) ok = (v, refl, ap (λ how. Some (read_as how v)) h.0, ok)
 
 -- an id that has a row is found
-pub row_found : (id : Text) (rows : List Row) → has_row id rows ≡ true → is_some (find (λ r. bytes_eq r.id id) rows) ≡ true
+pub row_found : (id : Text) (rows : List Row)
+    → has_row id rows ≡ true
+    → is_some (find (λ r. bytes_eq r.id id) rows) ≡ true
 row_found id [] e = absurd (true≢false (sym e))
 row_found id (r ∷ rs) e = go (bytes_eq r.id id) e (row_found id rs)
   where
-    go : (b : Bool) → (b || has_row id rs) ≡ true → (has_row id rs ≡ true → is_some (find (λ x. bytes_eq x.id id) rs) ≡ true)
+    go : (b : Bool)
+        → (b || has_row id rs) ≡ true
+        → (has_row id rs ≡ true → is_some (find (λ x. bytes_eq x.id id) rs) ≡ true)
         → is_some (cond b (Some r) (find (λ x. bytes_eq x.id id) rs)) ≡ true
     go true h later = refl
     go false h later = later h
 
 -- and so is one that was given
-pub given_found : (id : Text) (rows : List Row) → is_given id rows ≡ true → is_some (find (λ r. bytes_eq r.id id) rows) ≡ true
+pub given_found : (id : Text) (rows : List Row)
+    → is_given id rows ≡ true
+    → is_some (find (λ r. bytes_eq r.id id) rows) ≡ true
 given_found id rows e = go (find (λ r. bytes_eq r.id id) rows) e
   where
     go : (o : Option Row) → option_map_or (λ r. explicit_source r.source) o false ≡ true → is_some o ≡ true

@@ -112,8 +112,10 @@ abbrev match_shape : Shape
 match_shape = built_of (codes "match") (pattern_rule ∷ subject_rule ∷ flag_rule ∷ [])
 
 abbrev serve_shape : Shape
-serve_shape = built_of (codes "serve")
-    (nodes_rule ∷ port_rule ∷ shards_rule ∷ inc_rule ∷ seed_rule ∷ end_rule ∷ log_rule ∷ time_rule ∷ socket_rule ∷ flag_rule ∷ [])
+serve_shape =
+    built_of (codes "serve")
+    (nodes_rule ∷ port_rule ∷ shards_rule ∷ inc_rule ∷ seed_rule ∷ end_rule ∷ log_rule ∷ time_rule ∷ socket_rule
+    ∷ flag_rule ∷ [])
 
 abbrev drain_shape : Shape
 drain_shape = built_of (codes "drain") (path_rule ∷ server_rule ∷ flag_rule ∷ [])
@@ -134,7 +136,9 @@ one_given : (a : Bool) → cond (not a || false) (kind.MissingRequiredArgument �
 one_given true e = refl
 one_given false e = absurd (no_kinds kind.MissingRequiredArgument [] e)
 
-both_given : (a b : Bool) → cond (not a || (not b || false)) (kind.MissingRequiredArgument ∷ []) [] ≡ [] → (a ≡ true) × (b ≡ true)
+both_given : (a b : Bool)
+    → cond (not a || (not b || false)) (kind.MissingRequiredArgument ∷ []) [] ≡ []
+    → (a ≡ true) × (b ≡ true)
 both_given true true e = (refl, refl)
 both_given true false e = absurd (no_kinds kind.MissingRequiredArgument [] e)
 both_given false b e = absurd (no_kinds kind.MissingRequiredArgument [] e)
@@ -159,11 +163,16 @@ number_read a r h =
     let text = text_of_row (numeric a) r h in
     subst (λ (o : Option Text). IsSomeAnd o IsNumber) (sym text.2) (number_passes a text.0 text.3)
 
-number_found : (a : Rule) (o : Option Row) → IfSome o (Reads (numeric a)) → is_some o ≡ true → IsSomeAnd (option_and_then row_text o) IsNumber
+number_found : (a : Rule) (o : Option Row)
+    → IfSome o (Reads (numeric a))
+    → is_some o ≡ true
+    → IsSomeAnd (option_and_then row_text o) IsNumber
 number_found a None h e = absurd (true≢false (sym e))
 number_found a (Some r) h e = number_read a r h
 
-number_if_found : (a : Rule) (o : Option Row) → IfSome o (Reads (numeric a)) → IfSome (option_and_then row_text o) IsNumber
+number_if_found : (a : Rule) (o : Option Row)
+    → IfSome o (Reads (numeric a))
+    → IfSome (option_and_then row_text o) IsNumber
 number_if_found a None h = tt
 number_if_found a (Some r) h = go (row_text r) (number_read a r h)
   where
@@ -171,18 +180,29 @@ number_if_found a (Some r) h = go (row_text r) (number_read a r h)
     go None bad = absurd bad
     go (Some t) ok = ok
 
-word_found : (a : Rule) (o : Option Row) → IfSome o (Reads a) → is_some o ≡ true → IsSome (option_and_then (λ r. slice_get r.values 0) o)
+word_found : (a : Rule) (o : Option Row)
+    → IfSome o (Reads a)
+    → is_some o ≡ true
+    → IsSome (option_and_then (λ r. slice_get r.values 0) o)
 word_found a None h e = absurd (true≢false (sym e))
 word_found a (Some r) h e = ap (λ (o : Option Text). is_some o) (text_of_row a r h).1
 
 -- an argument of a command that has a row: a number where it is one, and a text
-has_number : (s : Shape) (name : Text) (a : Rule) (rows : List Row) → arg_by_id s.rules name ≡ Some (numeric a) → Each (RowFits s.rules) rows
-    → is_some (find (λ r. bytes_eq r.id name) rows) ≡ true → HasNumber name rows
-has_number s name a rows own fit there = number_found a (find (λ r. bytes_eq r.id name) rows) (row_of_rule s.rules name (numeric a) rows own fit) there
+has_number : (s : Shape) (name : Text) (a : Rule) (rows : List Row)
+    → arg_by_id s.rules name ≡ Some (numeric a)
+    → Each (RowFits s.rules) rows
+    → is_some (find (λ r. bytes_eq r.id name) rows) ≡ true
+    → HasNumber name rows
+has_number s name a rows own fit there =
+    number_found a (find (λ r. bytes_eq r.id name) rows) (row_of_rule s.rules name (numeric a) rows own fit) there
 
-has_text : (s : Shape) (name : Text) (a : Rule) (rows : List Row) → arg_by_id s.rules name ≡ Some a → Each (RowFits s.rules) rows
-    → is_some (find (λ r. bytes_eq r.id name) rows) ≡ true → IsSome (first_of name rows)
-has_text s name a rows own fit there = word_found a (find (λ r. bytes_eq r.id name) rows) (row_of_rule s.rules name a rows own fit) there
+has_text : (s : Shape) (name : Text) (a : Rule) (rows : List Row)
+    → arg_by_id s.rules name ≡ Some a
+    → Each (RowFits s.rules) rows
+    → is_some (find (λ r. bytes_eq r.id name) rows) ≡ true
+    → IsSome (first_of name rows)
+has_text s name a rows own fit there =
+    word_found a (find (λ r. bytes_eq r.id name) rows) (row_of_rule s.rules name a rows own fit) there
 
 -- ---- `match`
 
@@ -204,17 +224,26 @@ match_defaults = (
   ),
 )
 
-match_needs : (rows : List Row) → check_fault match_shape rows false ≡ [] → (is_given (codes "PATTERN") rows ≡ true) × (is_given (codes "SUBJECT") rows ≡ true)
+match_needs : (rows : List Row)
+    → check_fault match_shape rows false ≡ []
+    → (is_given (codes "PATTERN") rows ≡ true) × (is_given (codes "SUBJECT") rows ≡ true)
 match_needs rows e = both_given (is_given (codes "PATTERN") rows) (is_given (codes "SUBJECT") rows) e
 
-match_whole : (words : List Text) → level_fault match_shape [] nothing_held words false [] ≡ [] → AreWords (rows_after match_shape.rules [] words)
+match_whole : (words : List Text)
+    → level_fault match_shape [] nothing_held words false [] ≡ []
+    → AreWords (rows_after match_shape.rules [] words)
 match_whole words e =
     let rows = rows_after match_shape.rules [] words in
-    let kept = level_keeps match_shape (Each (RowFits match_shape.rules)) match_keeps [] nothing_held words false [] match_defaults e tt in
+    let kept = level_keeps match_shape (Each (RowFits match_shape.rules)) match_keeps [] nothing_held words false []
+    match_defaults e tt in
     let given = match_needs rows kept.1 in
     record {
-      pattern = has_text match_shape (codes "PATTERN") pattern_rule rows refl kept.0 (given_found (codes "PATTERN") rows given.0);
-      subject = has_text match_shape (codes "SUBJECT") subject_rule rows refl kept.0 (given_found (codes "SUBJECT") rows given.1);
+      pattern =
+          has_text match_shape (codes "PATTERN") pattern_rule rows refl kept.0
+          (given_found (codes "PATTERN") rows given.0);
+      subject =
+          has_text match_shape (codes "SUBJECT") subject_rule rows refl kept.0
+          (given_found (codes "SUBJECT") rows given.1);
     }
 
 -- ---- `serve`
@@ -279,7 +308,9 @@ serve_defaults = (
   ),
 )
 
-serve_needs : (rows : List Row) → check_fault serve_shape rows false ≡ [] → (is_given (codes "nodes") rows ≡ true) × (is_given (codes "port") rows ≡ true)
+serve_needs : (rows : List Row)
+    → check_fault serve_shape rows false ≡ []
+    → (is_given (codes "nodes") rows ≡ true) × (is_given (codes "port") rows ≡ true)
 serve_needs rows e = both_given (is_given (codes "nodes") rows) (is_given (codes "port") rows) e
 
 -- the options that have defaults
@@ -318,22 +349,37 @@ seconds_there rows =
     defaults_stay (codes "drain-seconds") (drop 8 serve_shape.rules) (with_default before time_rule)
     (default_comes time_rule (codes "30") before)
 
-serve_whole : (words : List Text) → level_fault serve_shape [] nothing_held words false [] ≡ [] → AreOptions (rows_after serve_shape.rules [] words)
+serve_whole : (words : List Text)
+    → level_fault serve_shape [] nothing_held words false [] ≡ []
+    → AreOptions (rows_after serve_shape.rules [] words)
 serve_whole words e =
     let rows = rows_after serve_shape.rules [] words in
-    let kept = level_keeps serve_shape (Each (RowFits serve_shape.rules)) serve_keeps [] nothing_held words false [] serve_defaults e tt in
+    let kept = level_keeps serve_shape (Each (RowFits serve_shape.rules)) serve_keeps [] nothing_held words false []
+    serve_defaults e tt in
     let given = serve_needs rows kept.1 in
     let used = (settled serve_shape.rules (walk serve_shape.rules [] nothing_held words).held).rows in
     record {
-      nodes = has_number serve_shape (codes "nodes") nodes_rule rows refl kept.0 (given_found (codes "nodes") rows given.0);
+      nodes =
+          has_number serve_shape (codes "nodes") nodes_rule rows refl kept.0 (given_found (codes "nodes") rows given.0);
       port = has_number serve_shape (codes "port") port_rule rows refl kept.0 (given_found (codes "port") rows given.1);
-      shards = has_number serve_shape (codes "shards") shards_rule rows refl kept.0 (row_found (codes "shards") rows (shards_there used));
-      inc = has_number serve_shape (codes "inc") inc_rule rows refl kept.0 (row_found (codes "inc") rows (inc_there used));
-      word = has_number serve_shape (codes "word") seed_rule rows refl kept.0 (row_found (codes "word") rows (word_there used));
-      stop_after = number_if_found end_rule (find (λ r. bytes_eq r.id (codes "stop-after")) rows)
+      shards =
+          has_number serve_shape (codes "shards") shards_rule rows refl kept.0
+          (row_found (codes "shards") rows (shards_there used));
+      inc =
+          has_number serve_shape (codes "inc") inc_rule rows refl kept.0
+          (row_found (codes "inc") rows (inc_there used));
+      word =
+          has_number serve_shape (codes "word") seed_rule rows refl kept.0
+          (row_found (codes "word") rows (word_there used));
+      stop_after =
+          number_if_found end_rule (find (λ r. bytes_eq r.id (codes "stop-after")) rows)
           (row_of_rule serve_shape.rules (codes "stop-after") end_rule rows refl kept.0);
-      log_level = has_text serve_shape (codes "log-level") log_rule rows refl kept.0 (row_found (codes "log-level") rows (level_there used));
-      drain_seconds = has_number serve_shape (codes "drain-seconds") time_rule rows refl kept.0 (row_found (codes "drain-seconds") rows (seconds_there used));
+      log_level =
+          has_text serve_shape (codes "log-level") log_rule rows refl kept.0
+          (row_found (codes "log-level") rows (level_there used));
+      drain_seconds =
+          has_number serve_shape (codes "drain-seconds") time_rule rows refl kept.0
+          (row_found (codes "drain-seconds") rows (seconds_there used));
     }
 
 -- ---- `drain`
@@ -363,8 +409,10 @@ drain_whole : (words : List Text) → level_fault drain_shape [] nothing_held wo
     → IsSome (first_of (codes "PATH") (rows_after drain_shape.rules [] words))
 drain_whole words e =
     let rows = rows_after drain_shape.rules [] words in
-    let kept = level_keeps drain_shape (Each (RowFits drain_shape.rules)) drain_keeps [] nothing_held words false [] drain_defaults e tt in
-    has_text drain_shape (codes "PATH") path_rule rows refl kept.0 (given_found (codes "PATH") rows (drain_needs rows kept.1))
+    let kept = level_keeps drain_shape (Each (RowFits drain_shape.rules)) drain_keeps [] nothing_held words false []
+    drain_defaults e tt in
+    has_text drain_shape (codes "PATH") path_rule rows refl kept.0
+    (given_found (codes "PATH") rows (drain_needs rows kept.1))
 
 -- ---- `node`
 
@@ -416,7 +464,9 @@ node_defaults = (
   ),
 )
 
-node_needs : (rows : List Row) → check_fault node_shape rows false ≡ [] → (is_given (codes "NAME") rows ≡ true) × (is_given (codes "mesh") rows ≡ true)
+node_needs : (rows : List Row)
+    → check_fault node_shape rows false ≡ []
+    → (is_given (codes "NAME") rows ≡ true) × (is_given (codes "mesh") rows ≡ true)
 node_needs rows e = both_given (is_given (codes "NAME") rows) (is_given (codes "mesh") rows) e
 
 -- the options that have defaults
@@ -433,27 +483,38 @@ node_level_there rows =
     defaults_stay (codes "log-level") (drop 5 node_shape.rules) (with_default before log_rule)
     (default_comes log_rule (codes "info") before)
 
-node_seconds_there : (rows : List Row) → has_row (codes "drain-seconds") (fold with_default rows node_shape.rules) ≡ true
+node_seconds_there : (rows : List Row)
+    → has_row (codes "drain-seconds") (fold with_default rows node_shape.rules) ≡ true
 node_seconds_there rows =
     let early = with_default (with_default rows name_rule) mesh_rule in
     let before = with_default (with_default (with_default early state_rule) first_rule) log_rule in
     defaults_stay (codes "drain-seconds") (drop 6 node_shape.rules) (with_default before time_rule)
     (default_comes time_rule (codes "30") before)
 
-node_whole : (words : List Text) → level_fault node_shape [] nothing_held words false [] ≡ [] → AreNodeOptions (rows_after node_shape.rules [] words)
+node_whole : (words : List Text)
+    → level_fault node_shape [] nothing_held words false [] ≡ []
+    → AreNodeOptions (rows_after node_shape.rules [] words)
 node_whole words e =
     let rows = rows_after node_shape.rules [] words in
-    let kept = level_keeps node_shape (Each (RowFits node_shape.rules)) node_keeps [] nothing_held words false [] node_defaults e tt in
+    let kept = level_keeps node_shape (Each (RowFits node_shape.rules)) node_keeps [] nothing_held words false []
+    node_defaults e tt in
     let given = node_needs rows kept.1 in
     let used = (settled node_shape.rules (walk node_shape.rules [] nothing_held words).held).rows in
     record {
       name = has_text node_shape (codes "NAME") name_rule rows refl kept.0 (given_found (codes "NAME") rows given.0);
       mesh = has_text node_shape (codes "mesh") mesh_rule rows refl kept.0 (given_found (codes "mesh") rows given.1);
-      state = has_text node_shape (codes "state") state_rule rows refl kept.0 (row_found (codes "state") rows (state_there used));
-      least_inc = number_if_found first_rule (find (λ r. bytes_eq r.id (codes "least-inc")) rows)
+      state =
+          has_text node_shape (codes "state") state_rule rows refl kept.0
+          (row_found (codes "state") rows (state_there used));
+      least_inc =
+          number_if_found first_rule (find (λ r. bytes_eq r.id (codes "least-inc")) rows)
           (row_of_rule node_shape.rules (codes "least-inc") first_rule rows refl kept.0);
-      log_level = has_text node_shape (codes "log-level") log_rule rows refl kept.0 (row_found (codes "log-level") rows (node_level_there used));
-      drain_seconds = has_number node_shape (codes "drain-seconds") time_rule rows refl kept.0 (row_found (codes "drain-seconds") rows (node_seconds_there used));
+      log_level =
+          has_text node_shape (codes "log-level") log_rule rows refl kept.0
+          (row_found (codes "log-level") rows (node_level_there used));
+      drain_seconds =
+          has_number node_shape (codes "drain-seconds") time_rule rows refl kept.0
+          (row_found (codes "drain-seconds") rows (node_seconds_there used));
     }
 
 -- ---- `check`
@@ -477,13 +538,17 @@ check_whole : (words : List Text) → level_fault check_shape [] nothing_held wo
     → IsSome (first_of (codes "FILE") (rows_after check_shape.rules [] words))
 check_whole words e =
     let rows = rows_after check_shape.rules [] words in
-    let kept = level_keeps check_shape (Each (RowFits check_shape.rules)) check_keeps [] nothing_held words false [] check_defaults e tt in
-    has_text check_shape (codes "FILE") file_rule rows refl kept.0 (given_found (codes "FILE") rows (check_needs rows kept.1))
+    let kept = level_keeps check_shape (Each (RowFits check_shape.rules)) check_keeps [] nothing_held words false []
+    check_defaults e tt in
+    has_text check_shape (codes "FILE") file_rule rows refl kept.0
+    (given_found (codes "FILE") rows (check_needs rows kept.1))
 
 -- ---- the line
 
 -- where the first that passes is known to fit
-first_fits : {X : Type 0} (P : X → Type 0) (p : X → Bool) (xs : List X) → Each (λ x. p x ≡ true → P x) xs → IfSome (find p xs) P
+first_fits : {X : Type 0} (P : X → Type 0) (p : X → Bool) (xs : List X)
+    → Each (λ x. p x ≡ true → P x) xs
+    → IfSome (find p xs) P
 first_fits P p [] all = tt
 first_fits P p (x ∷ xs) all = go (p x) all.0 (first_fits P p xs all.1)
   where
@@ -558,7 +623,8 @@ taken_whole words e =
     let b = both_pass (entered_fault whole_line end.stopped) _ a.1 in
     let c = both_pass (settle_fault whole_line.top.rules whole_line.top.args_override_self end.held) _ b.1 in
     let d = both_pass (defaults_fault (settled whole_line.top.rules end.held).rows whole_line.top.rules) _ c.1 in
-    stop_whole end.stopped (finished whole_line.top.rules end.held) (walk_stops whole_line.top names (walk_from nothing_held) given a.0 tt) b.0 d.1
+    stop_whole end.stopped (finished whole_line.top.rules end.held)
+    (walk_stops whole_line.top names (walk_from nothing_held) given a.0 tt) b.0 d.1
 
 -- the grammar says what a parse gives, and how it fails
 pub is_exact : is_simple_and_free router ≡ true

@@ -48,7 +48,8 @@ pub record AreOptions (rows : List Row) : Type 0 where
   pub log_level : IsSome (first_of (codes "log-level") rows)
   pub drain_seconds : HasNumber (codes "drain-seconds") rows
 
--- each number of a mesh is what its option writes, in digits, and the level and the path are the texts of their options
+-- each number of a mesh is what its option writes, in digits, and the level and the path are the
+-- texts of their options
 pub record HasOptions (rows : List Row) (given : Given) : Type 0 where
   pub written : AreOptions rows
   pub nodes : number_in (codes "nodes") rows ≡ Some given.nodes
@@ -61,7 +62,8 @@ pub record HasOptions (rows : List Row) (given : Given) : Type 0 where
   pub drain_seconds : number_in (codes "drain-seconds") rows ≡ Some given.drain_seconds
   pub control : first_of (codes "control") rows ≡ option_map (λ text. text.now) given.control
 
--- the name of a server, the file of its mesh and all its options are there, but for a first incarnation, and where it is told to drain
+-- the name of a server, the file of its mesh and all its options are there, but for a first
+-- incarnation, and where it is told to drain
 pub record AreNodeOptions (rows : List Row) : Type 0 where
   pub name : IsSome (first_of (codes "NAME") rows)
   pub mesh : IsSome (first_of (codes "mesh") rows)
@@ -70,7 +72,8 @@ pub record AreNodeOptions (rows : List Row) : Type 0 where
   pub log_level : IsSome (first_of (codes "log-level") rows)
   pub drain_seconds : HasNumber (codes "drain-seconds") rows
 
--- each text of a server is that of its word or option, and each number is what its option writes, in digits
+-- each text of a server is that of its word or option, and each number is what its option writes,
+-- in digits
 pub record HasNodeOptions (rows : List Row) (given : NodeGiven) : Type 0 where
   pub written : AreNodeOptions rows
   pub name : first_of (codes "NAME") rows ≡ Some given.name.now
@@ -119,8 +122,12 @@ pub record AreWords (rows : List Row) : Type 0 where
 
 -- a command is named, and has the values that it needs
 abbrev pub IsWhole : Text × List Row → Type 0
-IsWhole found = (found.0 ≡ codes "pipe") ⊎ ((found.0 ≡ codes "match") × AreWords found.1)
-    ⊎ (found.0 ≡ codes "script") ⊎ (found.0 ≡ codes "audit") ⊎ ((found.0 ≡ codes "serve") × AreOptions found.1)
+IsWhole found =
+    (found.0 ≡ codes "pipe")
+    ⊎ ((found.0 ≡ codes "match") × AreWords found.1)
+    ⊎ (found.0 ≡ codes "script")
+    ⊎ (found.0 ≡ codes "audit")
+    ⊎ ((found.0 ≡ codes "serve") × AreOptions found.1)
     ⊎ ((found.0 ≡ codes "drain") × IsSome (first_of (codes "PATH") found.1))
     ⊎ ((found.0 ≡ codes "node") × AreNodeOptions found.1)
     ⊎ ((found.0 ≡ codes "check") × IsSome (first_of (codes "FILE") found.1))

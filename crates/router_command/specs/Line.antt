@@ -66,9 +66,14 @@ control_rule = text_rule (codes "control")
 abbrev pub seconds_rule : Rule
 seconds_rule = with_value (number_rule (codes "drain-seconds")) (codes "30")
 
+-- with the options of every server that runs
+abbrev pub with_running : App → App
+with_running command =
+    with_rule (with_rule (with_rule command level_rule) seconds_rule) control_rule
+
 -- `serve`, with all its options
 abbrev pub serve_command : App
-serve_command = with_rule (with_rule (with_rule serve_with_end level_rule) seconds_rule) control_rule
+serve_command = with_running serve_with_end
 
 -- `drain`, with its path, and the name of a server or none
 abbrev pub drain_command : App
@@ -90,7 +95,7 @@ node_with_incarnation = with_rule node_with_texts (number_rule (codes "least-inc
 
 -- `node`, with all its options
 abbrev pub node_command : App
-node_command = with_rule (with_rule (with_rule node_with_incarnation level_rule) seconds_rule) control_rule
+node_command = with_running node_with_incarnation
 
 -- `check`, with its file
 abbrev pub check_command : App
@@ -120,20 +125,22 @@ program = on_top (λ shape. record shape {
   subcommand_required = true;
 }) (new_app (codes "nats_mesh"))
 
--- the program and its eight commands
-abbrev pub router : App
-router = with_subcommand
-    (with_subcommand
-    (with_subcommand
-    (with_subcommand
-    (with_subcommand
+-- the program and its four commands that need no socket
+abbrev pub tools : App
+tools = with_subcommand
     (with_subcommand
     (with_subcommand
     (with_subcommand program (new_app (codes "pipe")).top)
     match_command.top)
     script_command.top)
-    (new_app (codes "audit")).top)
-    serve_command.top)
+    (new_app (codes "audit")).top
+
+-- the program and its eight commands
+abbrev pub router : App
+router = with_subcommand
+    (with_subcommand
+    (with_subcommand
+    (with_subcommand tools serve_command.top)
     drain_command.top)
     node_command.top)
     check_command.top

@@ -24,8 +24,8 @@ range_of DrainSeconds = (1, MOST_DRAIN_SECONDS)
 abbrev pub IsPath : List ℕ → Type 0
 IsPath path = (1 ≤ length path) × (length path ≤ MOST_PATH_BYTES)
 
--- as many servers as a cluster may have, of as many shards as a server may have, and a port for the clients and one for the routes
--- of each server, all of them ports, and a time for a drain
+-- as many servers as a cluster may have, of as many shards as a server may have, and a port for the
+-- clients and one for the routes of each server, all of them ports, and a time for a drain
 pub record AreWithin (options : Options) : Type 0 where
   pub some : 1 ≤ options.nodes
   pub few : options.nodes ≤ MAX_NODES

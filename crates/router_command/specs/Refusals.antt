@@ -1,4 +1,5 @@
--- Why the options of a mesh, or of one server, are refused: each cause, and which of them is told. (Profile.)
+-- Why the options of a mesh, or of one server, are refused: each cause, and which of them is told.
+-- (Profile.)
 use Rattle.std.specs.Prelude.{ℕ, List, length, Option, Some, None, option_and_then, is_none, is_some, nat_lt, ◌||◌, ◌+◌, ◌*◌, if◌then◌else◌}
 use Rattle.std.specs.Option.{option_or}
 use Rattle.subj.specs.Names.{node_name_fault}
@@ -14,7 +15,9 @@ use Rattle.router_command.specs.declared.options.Given.{Given}
 
 -- the value of the option is out of its range
 unfoldable pub value_fault : OptionName → ℕ → Option OptionFault
-value_fault name value = if nat_lt value (range_of name).0 || nat_lt (range_of name).1 value then Some (BadValue name) else None
+value_fault name value =
+    if nat_lt value (range_of name).0 || nat_lt (range_of name).1 value then Some (BadValue name)
+    else None
 
 -- the last port would be above the greatest one
 unfoldable pub ports_fault : ℕ → ℕ → Option OptionFault
@@ -26,7 +29,8 @@ level_fault text = if is_none (level_named text) then Some NoLevel else None
 
 -- the system does not take it as the path of a socket
 unfoldable pub path_fault : List ℕ → Option OptionFault
-path_fault path = if nat_lt (length path) 1 || nat_lt MOST_PATH_BYTES (length path) then Some BadPath else None
+path_fault path =
+    if nat_lt (length path) 1 || nat_lt MOST_PATH_BYTES (length path) then Some BadPath else None
 
 -- the text is no name of a server
 unfoldable pub name_fault : List ℕ → Option OptionFault

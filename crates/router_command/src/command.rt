@@ -2,9 +2,9 @@
 
 ghost use Rattle.std.specs.Prelude.{◌≡◌, IfErr, IfOk, IsSomeAnd, codes, map, true};
 ghost use Rattle.std.specs.String.{string_bytes};
-ghost use Rattle.clap.specs.Words.{FailsBy, fault_of, found_of, kind_of, new_app, rows_of, subcommand_rows_of, takes};
+ghost use Rattle.clap.specs.Words.{App, FailsBy, Rule, fault_of, found_of, kind_of, new_app, new_rule, rows_of, subcommand_rows_of, takes, with_rule, with_subcommand};
 ghost use Rattle.router_command.specs.Command.{AreNodeOptions, AreOptions, AskFor, HasNodeOptions, HasOptions, IsWhole, Names};
-ghost use Rattle.router_command.specs.Line.{HasRule, IsLine, check_command, control_rule, drain_command, level_rule, match_command, node_command, number_rule, program, required_rule, router, script_command, seconds_rule, serve_command, text_rule, with_value};
+ghost use Rattle.router_command.specs.Line.{HasRule, IsLine, check_command, control_rule, drain_command, level_rule, match_command, node_command, number_rule, program, required_rule, router, script_command, seconds_rule, serve_command, text_rule, tools, with_running, with_value};
 
 use crate::node_options::NodeGiven;
 use crate::options::Given;
@@ -63,6 +63,13 @@ fn text<'a>(alloc: Global, name: &'a str, value_name: &'a str, help: &'a str) ->
         .long(name)
         .value_name(value_name)
         .help(help)
+}
+
+/// The word at a place of the line, which has to be there.
+fn place<'a>(alloc: Global, name: &'a str, help: &'a str) -> Arg<'a>
+    ensures { HasRule result (required_rule (new_rule name.entry.now)) }
+{
+    Arg::new(alloc, name).required(true).help(help)
 }
 
 /// The option of after how many clients a mesh ends.
@@ -151,90 +158,136 @@ fn bare<'a>(alloc: Global, name: &'a str, about: &'a str) -> clap::Command<'a>
     clap::Command::new(alloc, name).about(about)
 }
 
-/// The command that serves a mesh.
-fn serve_line<'a>(alloc: Global) -> Result<clap::Command<'a>, AllocError>
-    ensures { IfOk result (λ command. IsLine command serve_command) }
+/// The option of how many servers a mesh has.
+fn nodes<'a>(alloc: Global) -> Arg<'a>
+    ensures { HasRule result (required_rule (number_rule (codes "nodes"))) }
 {
-    let nodes = number(alloc, "nodes", "How many servers: n1 to n16 at most").required(true);
-    let port = number(
+    number(alloc, "nodes", "How many servers: n1 to n16 at most").required(true)
+}
+
+/// The option of the first port of a mesh.
+fn port<'a>(alloc: Global) -> Arg<'a>
+    ensures { HasRule result (required_rule (number_rule (codes "port"))) }
+{
+    number(
         alloc,
         "port",
         "Clients of server i come to this port + i - 1, other servers to this port + nodes + i - 1",
     )
-    .required(true);
-    let shards = number(alloc, "shards", "How many shards each server has, 1 to 16").default_value(
-        "2",
-    );
-    let inc = number(
+    .required(true)
+}
+
+/// The option of how many shards each server has.
+fn shards<'a>(alloc: Global) -> Arg<'a>
+    ensures { HasRule result (with_value (number_rule (codes "shards")) (codes "2")) }
+{
+    number(alloc, "shards", "How many shards each server has, 1 to 16").default_value("2")
+}
+
+/// The option of the incarnation of all servers.
+fn inc<'a>(alloc: Global) -> Arg<'a>
+    ensures { HasRule result (with_value (number_rule (codes "inc")) (codes "1")) }
+{
+    number(
         alloc,
         "inc",
         "In which incarnation all servers start, from 1",
     )
-    .default_value("1");
-    let word = number(
+    .default_value("1")
+}
+
+/// The option of the seed of a mesh.
+fn word<'a>(alloc: Global) -> Arg<'a>
+    ensures { HasRule result (with_value (number_rule (codes "word")) (codes "0")) }
+{
+    number(
         alloc,
         "word",
         "The seed of the words that choose who serves a queue group",
     )
-    .default_value("0");
-    bare(alloc, "serve", "Serves a mesh of servers at 127.0.0.1")
-        .arg(nodes)?
-        .arg(port)?
-        .arg(shards)?
-        .arg(inc)?
-        .arg(word)?
-        .arg(stop_after(alloc))?
-        .arg(log_level(alloc))?
-        .arg(drain_seconds(alloc))?
-        .arg(control(alloc))
+    .default_value("0")
+}
+
+/// The command with one more argument, where there was memory for the command.
+fn with_arg<'a>(
+    command: Result<clap::Command<'a>, AllocError>,
+    arg: Arg<'a>,
+) -> Result<clap::Command<'a>, AllocError>
+    ensures { (app : App) (rule : Rule) → IfOk command.entry (λ command. IsLine command app)
+        → HasRule arg.entry rule → IfOk result (λ command. IsLine command (with_rule app rule)) }
+{
+    command?.arg(arg)
+}
+
+/// The command with the options of every server that runs: what it tells of events, and how it drains.
+fn with_running<'a>(
+    alloc: Global,
+    command: Result<clap::Command<'a>, AllocError>,
+) -> Result<clap::Command<'a>, AllocError>
+    ensures { (app : App) → IfOk command.entry (λ command. IsLine command app)
+        → IfOk result (λ command. IsLine command (with_running app)) }
+{
+    let command = with_arg(command, log_level(alloc));
+    let command = with_arg(command, drain_seconds(alloc));
+    with_arg(command, control(alloc))
+}
+
+/// The command that serves a mesh.
+fn serve_line<'a>(alloc: Global) -> Result<clap::Command<'a>, AllocError>
+    ensures { IfOk result (λ command. IsLine command serve_command) }
+{
+    let command = bare(alloc, "serve", "Serves a mesh of servers at 127.0.0.1").arg(nodes(alloc));
+    let command = with_arg(command, port(alloc));
+    let command = with_arg(command, shards(alloc));
+    let command = with_arg(command, inc(alloc));
+    let command = with_arg(command, word(alloc));
+    let command = with_arg(command, stop_after(alloc));
+    with_running(alloc, command)
 }
 
 /// The command that has servers drain.
 fn drain_line<'a>(alloc: Global) -> Result<clap::Command<'a>, AllocError>
     ensures { IfOk result (λ command. IsLine command drain_command) }
 {
-    let path = Arg::new(alloc, "PATH")
-        .required(true)
-        .help("The path that the servers were given as --control");
-    let server = Arg::new(alloc, "NAME").help("The server that drains alone, as n2");
-    bare(
+    let command = bare(
         alloc,
         "drain",
         "Has the servers drain that serve with --control PATH, or the one of this name",
     )
-    .arg(path)?
-    .arg(server)
+    .arg(place(
+        alloc,
+        "PATH",
+        "The path that the servers were given as --control",
+    ));
+    let server = Arg::new(alloc, "NAME").help("The server that drains alone, as n2");
+    with_arg(command, server)
 }
 
 /// The command that serves one server of a mesh.
 fn node_line<'a>(alloc: Global) -> Result<clap::Command<'a>, AllocError>
     ensures { IfOk result (λ command. IsLine command node_command) }
 {
-    let name = Arg::new(alloc, "NAME")
-        .required(true)
-        .help("The server's name in the file");
-    bare(
+    let command = bare(
         alloc,
         "node",
         "Serves one server of the mesh that a file describes",
     )
-    .arg(name)?
-    .arg(mesh_file(alloc))?
-    .arg(state_folder(alloc))?
-    .arg(least_inc(alloc))?
-    .arg(log_level(alloc))?
-    .arg(drain_seconds(alloc))?
-    .arg(control(alloc))
+    .arg(place(alloc, "NAME", "The server's name in the file"));
+    let command = with_arg(command, mesh_file(alloc));
+    let command = with_arg(command, state_folder(alloc));
+    let command = with_arg(command, least_inc(alloc));
+    with_running(alloc, command)
 }
 
 /// The command that tells what the file of a mesh means.
 fn check_line<'a>(alloc: Global) -> Result<clap::Command<'a>, AllocError>
     ensures { IfOk result (λ command. IsLine command check_command) }
 {
-    let file = Arg::new(alloc, "FILE")
-        .required(true)
-        .help("The file that describes the mesh");
-    bare(alloc, "check", "Tells what the file of a mesh means").arg(file)
+    bare(alloc, "check", "Tells what the file of a mesh means").arg(place(
+        alloc,
+        "FILE",
+        "The file that describes the mesh",
+    ))
 }
 
 /// The command that plays scripts.
@@ -257,11 +310,10 @@ fn script_line<'a>(alloc: Global) -> Result<clap::Command<'a>, AllocError>
 fn match_line<'a>(alloc: Global) -> Result<clap::Command<'a>, AllocError>
     ensures { IfOk result (λ command. IsLine command match_command) }
 {
-    let pattern = Arg::new(alloc, "PATTERN").required(true);
-    let subject = Arg::new(alloc, "SUBJECT").required(true);
-    bare(alloc, "match", "Tells whether a pattern matches a subject")
-        .arg(pattern)?
-        .arg(subject)
+    let command = bare(alloc, "match", "Tells whether a pattern matches a subject").arg(Arg::new(
+        alloc, "PATTERN",
+    ).required(true));
+    with_arg(command, Arg::new(alloc, "SUBJECT").required(true))
 }
 
 /// The program, without its commands.
@@ -277,9 +329,21 @@ fn program<'a>(alloc: Global) -> clap::Command<'a>
     .subcommand_required(true)
 }
 
-/// The program with its commands.
-fn line<'a>(alloc: Global) -> Result<clap::Command<'a>, AllocError>
-    ensures { IfOk result (λ command. IsLine command router) }
+/// The program with one more command, where there was memory for both.
+fn with_command<'a>(
+    program: Result<clap::Command<'a>, AllocError>,
+    command: Result<clap::Command<'a>, AllocError>,
+) -> Result<clap::Command<'a>, AllocError>
+    ensures { (app part : App) → IfOk program.entry (λ command. IsLine command app)
+        → IfOk command.entry (λ command. IsLine command part)
+        → IfOk result (λ command. IsLine command (with_subcommand app part.top)) }
+{
+    program?.subcommand(command?)
+}
+
+/// The program with the commands that need no socket.
+fn tools<'a>(alloc: Global) -> Result<clap::Command<'a>, AllocError>
+    ensures { IfOk result (λ command. IsLine command tools) }
 {
     let pipe = bare(
         alloc,
@@ -291,15 +355,20 @@ fn line<'a>(alloc: Global) -> Result<clap::Command<'a>, AllocError>
         "audit",
         "Tells the first placement of the log on standard input that breaks the clause",
     );
-    program(alloc)
-        .subcommand(pipe)?
-        .subcommand(match_line(alloc)?)?
-        .subcommand(script_line(alloc)?)?
-        .subcommand(audit)?
-        .subcommand(serve_line(alloc)?)?
-        .subcommand(drain_line(alloc)?)?
-        .subcommand(node_line(alloc)?)?
-        .subcommand(check_line(alloc)?)
+    let program = program(alloc).subcommand(pipe);
+    let program = with_command(program, match_line(alloc));
+    let program = with_command(program, script_line(alloc));
+    with_command(program, Ok(audit))
+}
+
+/// The program with its commands.
+fn line<'a>(alloc: Global) -> Result<clap::Command<'a>, AllocError>
+    ensures { IfOk result (λ command. IsLine command router) }
+{
+    let program = with_command(tools(alloc), serve_line(alloc));
+    let program = with_command(program, drain_line(alloc));
+    let program = with_command(program, node_line(alloc));
+    with_command(program, check_line(alloc))
 }
 
 /// What the line says of a mesh.

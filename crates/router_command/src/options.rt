@@ -60,7 +60,8 @@ pub(crate) fn level_named(text: &str) -> Option<LevelFilter>
 /// The value of an option, where it is in its range.
 #[tactic(auto, unfolding(crate::specs::Refusals::value_fault))]
 pub(crate) fn within(value: u64, name: OptionName) -> Result<u64, OptionFault>
-    ensures range { IfOk result (λ taken. ((range_of name).0 ≤ taken) × (taken ≤ (range_of name).1)) }
+    ensures range { IfOk result (λ taken.
+        ((range_of name).0 ≤ taken) × (taken ≤ (range_of name).1)) }
     ensures same { IfOk result (λ taken. taken ≡ value) }
     ensures refused { result_err result ≡ value_fault name value }
 {
@@ -73,7 +74,8 @@ pub(crate) fn within(value: u64, name: OptionName) -> Result<u64, OptionFault>
 
 /// Refused where there is a number of clients that is out of its range.
 fn stop_within(stop_after: Option<u64>) -> Result<(), OptionFault>
-    ensures { result_err result ≡ option_and_then (λ count. value_fault OptionName.StopAfter count) stop_after }
+    ensures { result_err result
+        ≡ option_and_then (λ count. value_fault OptionName.StopAfter count) stop_after }
 {
     if let Some(count) = stop_after {
         within(count, OptionName::StopAfter)?;
@@ -115,9 +117,11 @@ impl<'a> Options<'a> {
     /// path of the socket is empty or too long. (Profile.)
     pub fn new(given: Given<'a>) -> Result<Options<'a>, OptionFault>
         ensures within { IfOk result AreWithin }
-        ensures level { IfOk result (λ options. level_named given.entry.log_level.now ≡ Some options.log_level) }
+        ensures level { IfOk result (λ options.
+            level_named given.entry.log_level.now ≡ Some options.log_level) }
         ensures numbers { IfOk result (λ options. AreNumbers given.entry options) }
-        ensures seconds { IfOk result (λ options. options.drain_seconds ≡ given.entry.drain_seconds) }
+        ensures seconds { IfOk result (λ options.
+            options.drain_seconds ≡ given.entry.drain_seconds) }
         ensures control { IfOk result (λ options. options.control ≡ given.entry.control) }
         ensures refused { result_err result ≡ given_fault given.entry }
     {

@@ -1,3 +1,4 @@
 pub mod Named
 pub mod Lists
 pub mod Texts
+pub mod Words

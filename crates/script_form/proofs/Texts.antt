@@ -17,8 +17,12 @@ none_either false found none = refl
 nothing_is_none : json_of [] ≡ None
 nothing_is_none = none_either (is_utf8 []) (read []) nothing_read
 
-some_by : (bytes : List ℕ) (found : Option Data) (json : Data) → json_of bytes ≡ found → found ≡ Some json → 0 < length bytes
-some_by [] found json is some = let none : ◌≡◌ {A = Option Data} None (Some json) = sym nothing_is_none ∙ is ∙ some in search rules
+some_by : (bytes : List ℕ) (found : Option Data) (json : Data)
+    → json_of bytes ≡ found
+    → found ≡ Some json
+    → 0 < length bytes
+some_by [] found json is some =
+    let none : ◌≡◌ {A = Option Data} None (Some json) = sym nothing_is_none ∙ is ∙ some in search rules
 some_by (byte ∷ bytes) found json is some = grind arith
 
 pub some_bytes : (bytes : List ℕ) (json : Data) → json_of bytes ≡ Some json → 0 < length bytes

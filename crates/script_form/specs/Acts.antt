@@ -1,5 +1,7 @@
--- What a step of a script says: who does what (profile). Names and numbers may be of what is not there: that is the event's refusal.
-use Rattle.std.specs.Prelude.{ℕ, true, List, Option, Some, is_some, unwrap_or, if◌then◌else◌}
+-- What a step of a script says: who does what (profile). Names and numbers may be of what is not
+-- there: that is the event's refusal.
+use Rattle.std.specs.Prelude.{ℕ, Bool, true, List, Option, Some, is_some, unwrap_or, if◌then◌else◌}
+use Rattle.std.specs.Option.{option_copied}
 use Rattle.serde_json.specs.Data.{Data}
 use Rattle.serde_json.specs.Find.{get}
 use Rattle.subj.specs.declared.keys.Key.{Key}
@@ -8,6 +10,7 @@ use Rattle.subj.specs.declared.messages.Pub.{Pub}
 use Rattle.subj.specs.Names.{node_name_fault, pattern_fault, subject_fault, queue_name_fault, sid_fault}
 use Rattle.subj.specs.Numbers.{incarnation_of}
 use Rattle.subj.specs.Publications.{new_publication}
+use Rattle.script_form.specs.declared.script.Content.{Content as Said}
 use Rattle.script_form.specs.declared.steps.Act.{Act}
 use Rattle.script_form.specs.declared.steps.Act.TheVariants.{Start, Stop, Attach, Sub, Unsub, SetHeaders, Detach, Publish, Settled, Deliver, Receive, Collect, Drain, DrainShard, Begin, End, DropJob, Claim, Dial, Accept, Info, Connect, Cut, TakeEntries, TakeFrames, Join}
 use Rattle.script_form.specs.declared.steps.Step.{Step}
@@ -88,15 +91,37 @@ detach_in json = do
   conn ← conn json
   Some (Detach conn)
 
+-- what a publication has besides its subjects
+pub record Content : Type 0 where
+  pub headers : Option (List ℕ)
+  pub payload : List ℕ
+  pub echo : Bool
+
+abbrev pub content_of : Said → Content
+content_of said = record {
+  headers = option_copied said.headers;
+  payload = said.payload.now;
+  echo = said.echo;
+}
+
 -- with echo, where that is not said
+unfoldable pub content_in : Data → Option Content
+content_in json = do
+  headers ← optional text key.Headers json
+  payload ← member text key.Payload json
+  echo ← optional truth key.Echo json
+  Some (record { headers = headers; payload = payload; echo = unwrap_or echo true })
+
+abbrev pub publication_of : List ℕ → Option (List ℕ) → Content → Option Pub
+publication_of subject reply content =
+    new_publication subject reply content.headers content.payload content.echo
+
 unfoldable pub publication_in : Data → Option Pub
 publication_in json = do
   subject ← name_at subject_fault key.Subject json
   reply ← optional_name_at subject_fault key.Reply json
-  headers ← optional text key.Headers json
-  payload ← member text key.Payload json
-  echo ← optional truth key.Echo json
-  new_publication subject reply headers payload (unwrap_or echo true)
+  content ← content_in json
+  publication_of subject reply content
 
 -- a publish, or one that is delivered
 unfoldable pub publish_in : (ℕ → Pub → ℕ → Act) → Data → Option Act
@@ -157,7 +182,8 @@ take_frames_in json = do
 
 -- from a connection; where there is no such member, from a peer
 abbrev pub take_in : Data → Option Act
-take_in json = if is_some (get (name_of key.Conn) json) then take_entries_in json else take_frames_in json
+take_in json =
+    if is_some (get (name_of key.Conn) json) then take_entries_in json else take_frames_in json
 
 abbrev pub act_in : Verb → Data → Option Act
 act_in verb.Start json = start_in json

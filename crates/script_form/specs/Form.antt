@@ -28,7 +28,8 @@ pub record Script : Type 0 where
 -- each item of a list is of this kind
 abbrev pub each : {A : Type 0} → (Data → Option A) → Items → Option (List A)
 each kind no_items = Some []
-each kind (item value others) = kind value >>= λ first. each kind others >>= λ more. Some (first ∷ more)
+each kind (item value others) =
+    kind value >>= λ first. each kind others >>= λ more. Some (first ∷ more)
 
 -- ---- the shape
 
@@ -37,7 +38,9 @@ abbrev pub is_cluster : List (List ℕ) → ℕ → Bool
 is_cluster names shards = is_server (record { names = names; me = 0; inc = 1; shards = shards })
 
 abbrev pub cluster_script : List (List ℕ) → ℕ → List Step → Option Script
-cluster_script names shards steps = if is_cluster names shards then Some (record { names = names; shards = shards; steps = steps }) else None
+cluster_script names shards steps =
+    if is_cluster names shards then Some (record { names = names; shards = shards; steps = steps })
+    else None
 
 unfoldable pub script_in : Data → Option Script
 script_in json = do
@@ -54,7 +57,8 @@ abbrev pub count_of : List Step → ℕ
 count_of steps = sum (map (λ (step : Step). events_of step.act) steps)
 
 abbrev pub script_within_limit : Script → Result Script ScriptFault
-script_within_limit script = if nat_lt SCRIPT_EVENTS (count_of script.steps) then Err TooLong else Ok script
+script_within_limit script =
+    if nat_lt SCRIPT_EVENTS (count_of script.steps) then Err TooLong else Ok script
 
 abbrev pub script_of_shape : Option Script → Result Script ScriptFault
 script_of_shape None = Err BadShape
@@ -66,11 +70,13 @@ read_json (Some json) = script_of_shape (script_in json)
 
 -- what bytes are as a script, or the first cause for which they are none
 abbrev pub script_of : List ℕ → Result Script ScriptFault
-script_of bytes = if nat_lt SCRIPT_BYTES (length bytes) then Err TooLong else read_json (json_of bytes)
+script_of bytes =
+    if nat_lt SCRIPT_BYTES (length bytes) then Err TooLong else read_json (json_of bytes)
 
 -- ---- how a reader answers
 
--- it tells just what bytes are; want of memory may stand in place of either, but not of too many bytes
+-- it tells just what bytes are; want of memory may stand in place of either, but not of too many
+-- bytes
 abbrev pub Reads : List ℕ → Result Script (Failure ScriptError) → Type 0
 Reads bytes (Ok script) = script_of bytes ≡ Ok script
 Reads bytes (Err (Refused error)) = script_of bytes ≡ Err error.fault

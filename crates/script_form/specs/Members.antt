@@ -1,5 +1,6 @@
--- The members of a JSON object, as a script has them (profile): of equal members the last one counts, as `serde_json` has it,
--- and a member that nothing asks for is not looked at. `null` is there, and of another kind.
+-- The members of a JSON object, as a script has them (profile): of equal members the last one
+-- counts, as `serde_json` has it, and a member that nothing asks for is not looked at. `null` is
+-- there, and of another kind.
 use Rattle.std.specs.Prelude.{◌≡◌, ℕ, Bool, List, codes, Option, Some, None, Result, Ok, Err, is_some, option_and_then, option_map, if◌then◌else◌}
 use Rattle.serde_json.specs.Data.{Data}
 use Rattle.serde_json.specs.Find.{get, as_bool, as_number, as_str, as_u64}
@@ -85,11 +86,16 @@ where_there kind (Some value) = option_map Some (kind value)
 abbrev pub optional : {A : Type 0} → (Data → Option A) → Member → Data → Option (Option A)
 optional kind key json = where_there kind (get (name_of key) json)
 
-abbrev pub valid_where_there : (List ℕ → Option NameFault) → Option (List ℕ) → Option (Option (List ℕ))
+abbrev pub valid_where_there : (List ℕ → Option NameFault)
+    → Option (List ℕ)
+    → Option (Option (List ℕ))
 valid_where_there fault None = Some None
 valid_where_there fault (Some name) = option_map Some (valid fault name)
 
-unfoldable pub optional_name_at : (List ℕ → Option NameFault) → Member → Data → Option (Option (List ℕ))
+unfoldable pub optional_name_at : (List ℕ → Option NameFault)
+    → Member
+    → Data
+    → Option (Option (List ℕ))
 optional_name_at fault key json = do
   name ← optional text key json
   valid_where_there fault name

@@ -34,13 +34,15 @@ word_of Join = codes "join"
 -- all of them; no two have one word
 abbrev pub verbs : List Verb
 verbs =
-    Start ∷ Stop ∷ Attach ∷ Sub ∷ Unsub ∷ Headers ∷ Detach ∷ Publish ∷ Settled ∷ Deliver ∷ Receive ∷ Collect ∷ Drain ∷ DrainShard ∷ Begin ∷ End
-    ∷ Drop ∷ Claim ∷ Dial ∷ Accept ∷ Info ∷ Connect ∷ Cut ∷ Take ∷ Join ∷ []
+    Start ∷ Stop ∷ Attach ∷ Sub ∷ Unsub ∷ Headers ∷ Detach ∷ Publish ∷ Settled ∷ Deliver ∷ Receive
+    ∷ Collect ∷ Drain ∷ DrainShard ∷ Begin ∷ End ∷ Drop ∷ Claim ∷ Dial ∷ Accept ∷ Info ∷ Connect
+    ∷ Cut ∷ Take ∷ Join ∷ []
 
 -- the one whose word this is, letter by letter
 abbrev pub verb_among : List Verb → List ℕ → Option Verb
 verb_among [] word = None
-verb_among (verb ∷ others) word = if bytes_eq word (word_of verb) then Some verb else verb_among others word
+verb_among (verb ∷ others) word =
+    if bytes_eq word (word_of verb) then Some verb else verb_among others word
 
 abbrev pub verb_of : List ℕ → Option Verb
 verb_of word = verb_among verbs word

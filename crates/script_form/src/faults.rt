@@ -122,14 +122,3 @@ impl From<Misfit> for Failure<Place> {
         })
     }
 }
-
-impl From<Place> for Failure<Place> {
-    ghost use Rattle.std.specs.Prelude.{◌≡◌};
-    ghost use Rattle.subj.specs.declared.failures.Failure.TheVariants.{Refused};
-
-    ghost from_gives = { λ place failure. failure ≡ Refused place };
-
-    fn from(place: Place) -> Failure<Place> {
-        Failure::Refused(place)
-    }
-}

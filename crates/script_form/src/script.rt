@@ -8,7 +8,7 @@ ghost use Rattle.subj.specs.Answers.{IsAnswered};
 ghost use Rattle.subj.specs.Names.{node_name_fault, pattern_fault, subject_fault, queue_name_fault, sid_fault};
 ghost use Rattle.subj.specs.Publications.{new_publication};
 ghost use Rattle.script_form.specs.Members.{MemberMeans, Says, SaysBy, member as there, optional, whole, text as is_text, truth as is_truth, node as is_node, name_at, optional_name_at, MeansBy};
-ghost use Rattle.script_form.specs.Acts.{start_in, attach_in, key_in, sub_in, unsub_in, headers_in, publication_in, publish_in, settled_in, claim_in, take_entries_in, take_frames_in, take_in, act_in, verb_in, step_in, shard, peer, session, frame, conn};
+ghost use Rattle.script_form.specs.Acts.{start_in, attach_in, key_in, sub_in, unsub_in, headers_in, content_in, publication_of, publication_in, publish_in, settled_in, claim_in, take_entries_in, take_frames_in, take_in, act_in, content_of, verb_in, step_in, shard, peer, session, frame, conn};
 ghost use Rattle.script_form.specs.declared.steps.Act.TheVariants.{Publish, Deliver};
 ghost use Rattle.script_form.specs.declared.steps.Member.TheVariants.{Headers as HeadersMember, Payload as PayloadMember};
 ghost use Rattle.serde_json.specs.Find.{as_array};
@@ -96,7 +96,9 @@ fn optional_text<'a>(object: &'a Value, member: Member) -> Result<Option<&'a str
 
 /// What was read as a name, or that the member is none.
 fn member_name<T>(read: Result<T, Failure<NameFault>>, member: Member) -> Result<T, Failure<Misfit>>
-    ensures { (cause : Option Cause) (value : T) → IsAnswered cause (λ x. x ≡ value) ⊤ read → MemberMeans (if is_some cause then None else Some value) result }
+    ensures { (cause : Option Cause) (value : T)
+        → IsAnswered cause (λ x. x ≡ value) ⊤ read
+        → MemberMeans (if is_some cause then None else Some value) result }
 {
     match read {
         Ok(value) => Ok(value),
@@ -110,7 +112,9 @@ fn some_member_name<T>(
     read: Result<T, Failure<NameFault>>,
     member: Member,
 ) -> Result<Option<T>, Failure<Misfit>>
-    ensures { (cause : Option Cause) (value : T) → IsAnswered cause (λ x. x ≡ value) ⊤ read → MemberMeans (option_map Some (if is_some cause then None else Some value)) result }
+    ensures { (cause : Option Cause) (value : T)
+        → IsAnswered cause (λ x. x ≡ value) ⊤ read
+        → MemberMeans (option_map Some (if is_some cause then None else Some value)) result }
 {
     match read {
         Ok(value) => Ok(Some(value)),
@@ -310,23 +314,49 @@ fn wrong_member(headers: Option<&str>) -> Member
     }
 }
 
-/// The publication of these texts.
+/// What a publication has besides its subjects.
+#[derive(Clone, Copy)]
+struct Content<'a> {
+    headers: Option<&'a str>,
+    payload: &'a str,
+    echo: bool,
+}
+
+#[tactic(auto, unfolding(crate::specs::Acts::content_in))]
+fn read_content(object: &Value) -> Result<Content<'_>, Misfit>
+    ensures { SaysBy content_of (content_in (view object.now)) result }
+{
+    Ok(Content {
+        headers: optional_text(object, Member::Headers)?,
+        payload: text(object, Member::Payload)?,
+        echo: optional_truth(object, Member::Echo)?.unwrap_or(true),
+    })
+}
+
+/// The header block, where there is one, and the payload.
+fn blocks_of(alloc: Global, content: Content<'_>) -> Result<(Option<Bytes>, Bytes), AllocError>
+    ensures { IfOk result (λ blocks. (blocks.0 ≡ option_copied content.entry.headers)
+        × (blocks.1 ≡ content.entry.payload.now)) }
+{
+    let headers = bytes_where_there(alloc, content.headers)?;
+    let payload = Bytes::copy_from_slice(alloc, content.payload.as_bytes())?;
+    Ok((headers, payload))
+}
+
+/// The publication of this content.
 fn publication_of(
     alloc: Global,
     subject: Subject,
     reply: Option<Subject>,
-    headers: Option<&str>,
-    payload: &str,
-    echo: bool,
+    content: Content<'_>,
 ) -> Result<Pub, Failure<Misfit>>
-    ensures { MemberMeans (new_publication subject reply (option_copied headers.entry) payload.now echo) result }
+    ensures { MemberMeans (publication_of subject reply (content_of content.entry)) result }
 {
-    let block = bytes_where_there(alloc, headers)?;
-    let payload = Bytes::copy_from_slice(alloc, payload.as_bytes())?;
-    match Pub::new(alloc, subject, reply, block, payload, echo)? {
+    let (headers, payload) = blocks_of(alloc, content)?;
+    match Pub::new(alloc, subject, reply, headers, payload, content.echo)? {
         Some(publication) => Ok(publication),
         None => Err(Failure::Refused(Misfit {
-            member: wrong_member(headers),
+            member: wrong_member(content.headers),
         })),
     }
 }
@@ -338,10 +368,8 @@ fn read_publication(alloc: Global, object: &Value) -> Result<Pub, Failure<Misfit
 {
     let subject = subject(alloc, object, Member::Subject)?;
     let reply = optional_subject(alloc, object, Member::Reply)?;
-    let headers = optional_text(object, Member::Headers)?;
-    let payload = text(object, Member::Payload)?;
-    let echo = optional_truth(object, Member::Echo)?.unwrap_or(true);
-    publication_of(alloc, subject, reply, headers, payload, echo)
+    let content = read_content(object)?;
+    publication_of(alloc, subject, reply, content)
 }
 
 #[tactic(auto, unfolding(crate::specs::Acts::publish_in))]
@@ -515,7 +543,11 @@ impl Model for Script {
 
     ghost Value = { Script };
 
-    ghost view = { λ s. record { names = s.server.names; shards = s.server.shards; steps = s.steps.items } };
+    ghost view = { λ s. record {
+      names = s.server.names;
+      shards = s.server.shards;
+      steps = s.steps.items;
+    } };
 
     ghost invariant = { λ s. is_cluster s.server.names s.server.shards ≡ true };
 }
@@ -543,7 +575,8 @@ fn read_json(alloc: Global, bytes: &[u8]) -> Result<Value, Failure<ScriptError>>
 
 /// The items of a list.
 fn list<'a>(object: &'a Value, member: Member) -> Result<&'a [Value], Misfit>
-    ensures { SaysBy (λ items. items_view items.now) (there as_array member (view object.now)) result }
+    ensures { SaysBy (λ items. items_view items.now) (there as_array member (view object.now))
+        result }
 {
     match object.get(member.name()).and_then(Value::as_array) {
         Some(items) => Ok(items),
@@ -557,9 +590,11 @@ fn read_names(alloc: Global, items: &[Value]) -> Result<Vec<NodeId>, Failure<Pla
 {
     let mut names = Vec::new(alloc);
     for item in items {
-        let name = node_of(item).ok_or(Place::Member {
-            member: Member::Nodes,
-        })?;
+        let Some(name) = node_of(item) else {
+            return Err(Failure::Refused(Place::Member {
+                member: Member::Nodes,
+            }));
+        };
         names.push(name)?;
     }
     Ok(names)

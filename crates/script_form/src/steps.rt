@@ -3,7 +3,7 @@
 ghost use Rattle.std.specs.Prelude.{◌≡◌, ◌≤◌};
 ghost use Rattle.script_form.specs.Acts.{events_of};
 ghost use Rattle.script_form.specs.Members.{name_of};
-ghost use Rattle.script_form.specs.Words.{verb_of};
+ghost use Rattle.script_form.specs.Words.{verb_of, word_of};
 
 use subj::{ConnId, Incarnation, JOIN_EVENTS, Key, NodeId, Pub, Sid, Subject};
 
@@ -245,37 +245,77 @@ pub(crate) enum Verb {
 }
 
 impl Verb {
+    /// All of them.
+    const ALL: [Verb; 25] = [
+        Verb::Start,
+        Verb::Stop,
+        Verb::Attach,
+        Verb::Sub,
+        Verb::Unsub,
+        Verb::Headers,
+        Verb::Detach,
+        Verb::Publish,
+        Verb::Settled,
+        Verb::Deliver,
+        Verb::Receive,
+        Verb::Collect,
+        Verb::Drain,
+        Verb::DrainShard,
+        Verb::Begin,
+        Verb::End,
+        Verb::Drop,
+        Verb::Claim,
+        Verb::Dial,
+        Verb::Accept,
+        Verb::Info,
+        Verb::Connect,
+        Verb::Cut,
+        Verb::Take,
+        Verb::Join,
+    ];
+
+    /// Its word.
+    fn word(self) -> &'static str
+        ensures { result.now ≡ word_of self }
+    {
+        match self {
+            Verb::Start => "start",
+            Verb::Stop => "stop",
+            Verb::Attach => "attach",
+            Verb::Sub => "sub",
+            Verb::Unsub => "unsub",
+            Verb::Headers => "headers",
+            Verb::Detach => "detach",
+            Verb::Publish => "publish",
+            Verb::Settled => "settled",
+            Verb::Deliver => "deliver",
+            Verb::Receive => "receive",
+            Verb::Collect => "collect",
+            Verb::Drain => "drain",
+            Verb::DrainShard => "drainshard",
+            Verb::Begin => "begin",
+            Verb::End => "end",
+            Verb::Drop => "drop",
+            Verb::Claim => "claim",
+            Verb::Dial => "dial",
+            Verb::Accept => "accept",
+            Verb::Info => "info",
+            Verb::Connect => "connect",
+            Verb::Cut => "cut",
+            Verb::Take => "take",
+            Verb::Join => "join",
+        }
+    }
+
     /// The one of this word.
     pub(crate) fn read(word: &str) -> Option<Verb>
         ensures { result ≡ verb_of word.now }
     {
-        match word {
-            "start" => Some(Verb::Start),
-            "stop" => Some(Verb::Stop),
-            "attach" => Some(Verb::Attach),
-            "sub" => Some(Verb::Sub),
-            "unsub" => Some(Verb::Unsub),
-            "headers" => Some(Verb::Headers),
-            "detach" => Some(Verb::Detach),
-            "publish" => Some(Verb::Publish),
-            "settled" => Some(Verb::Settled),
-            "deliver" => Some(Verb::Deliver),
-            "receive" => Some(Verb::Receive),
-            "collect" => Some(Verb::Collect),
-            "drain" => Some(Verb::Drain),
-            "drainshard" => Some(Verb::DrainShard),
-            "begin" => Some(Verb::Begin),
-            "end" => Some(Verb::End),
-            "drop" => Some(Verb::Drop),
-            "claim" => Some(Verb::Claim),
-            "dial" => Some(Verb::Dial),
-            "accept" => Some(Verb::Accept),
-            "info" => Some(Verb::Info),
-            "connect" => Some(Verb::Connect),
-            "cut" => Some(Verb::Cut),
-            "take" => Some(Verb::Take),
-            "join" => Some(Verb::Join),
-            _ => None,
+        for verb in &Verb::ALL {
+            if word == verb.word() {
+                return Some(*verb);
+            }
         }
+        None
     }
 }

@@ -1,5 +1,5 @@
-//! Cases of scripts, of audits, of matches, of lists of events, of one client on a pipe, of command lines, and of whole servers: `data/` has them, and
-//! `golden` says how they are written.
+//! Cases of scripts, of audits, of matches, of lists of events, of one client on a pipe, of command lines, of files of a mesh, of the incarnations that a
+//! server takes, and of whole servers: `data/` has them, and `golden` says how they are written.
 //!
 //! ```text
 //! script.read [] => refused 91
@@ -13,6 +13,8 @@
 //! pipe.run SUB foo 1\r\nPUB f|oo 2\r\nhi\r\n => ended: +OK\r\n+OK\r\nMSG foo 1 2\r\nhi\r\n
 //! pipe.run PING\r\n|!read fails => reading failed: PONG\r\n
 //! line.asks match|foo.*|foo.a => match 'foo.*' 'foo.a'
+//! mesh.read server = 1 => server: not an array; each server is wanted as [[server]]
+//! disk.starts 7 => 7
 //! n1.start 2
 //! n1.attach 1 => conn 1
 //! n1.publish 1|foo|hello|0 => turn 1, frames 0
@@ -32,7 +34,8 @@
 //!
 //! In reading order: `input` is put together for a script or a pipe, and `output` is what was written last, looked at piece by piece;
 //! `reading` reads scripts, `plays` plays them, `audits` audits logs, `matches` asks of patterns, `worlds` makes lists of events in one call, and
-//! `pipes` serves one client by `pieces`, of which each is what one read gives. `commands` reads command lines. `events` reads what a server is asked, and
+//! `pipes` serves one client by `pieces`, of which each is what one read gives. `commands` reads command lines, `meshes` the files of a
+//! mesh, and `incarnations` starts a server over a disk in memory. `events` reads what a server is asked, and
 //! `servers` makes it: a server over one race, over both, and all servers of a case. `streams` says how a run ended, and `rig` has what stands and whose
 //! call a line is.
 #![tactic(auto)]
@@ -40,8 +43,10 @@
 mod audits;
 mod commands;
 mod events;
+mod incarnations;
 mod input;
 mod matches;
+mod meshes;
 mod output;
 mod pieces;
 mod pipes;
@@ -56,6 +61,5 @@ use rig::ScriptRig;
 use std::process::ExitCode;
 
 fn main(rt: HostRuntime) -> ExitCode {
-    let mut rig = ScriptRig::new(rt.alloc());
-    golden::play(&rt, &mut rig)
+    golden::play(&rt, ScriptRig::new(rt.alloc()))
 }

@@ -2,27 +2,32 @@
 
 use crate::output::Output;
 use crate::servers::Servers;
-use crate::{audits, commands, input, matches, output, pipes, plays, reading, worlds};
-use golden::{Rig, Words, text};
+use crate::{
+    audits, commands, incarnations, input, matches, meshes, output, pipes, plays, reading, worlds,
+};
+use golden::{Rig, Words, put, text};
+use incarnation_file::MemoryDisk;
 use std::alloc::{AllocError, Global};
 
-/// What a case puts together, what was written last, and the servers that have started.
+/// What a case puts together, what was written last, the servers that have started, and the disk of one.
 #[derive(Drop)]
 pub struct ScriptRig {
     alloc: Global,
     input: Vec<u8>,
     output: Output,
     servers: Servers,
+    disk: MemoryDisk,
 }
 
 impl ScriptRig {
-    /// Nothing was put, nothing written, and no server has started.
+    /// Nothing was put, nothing written, no server has started, and its disk has no file.
     pub fn new(alloc: Global) -> ScriptRig {
         ScriptRig {
             alloc,
             input: Vec::new(alloc),
             output: Output::new(alloc),
             servers: Servers::new(alloc),
+            disk: MemoryDisk::new(alloc, None),
         }
     }
 }
@@ -32,6 +37,7 @@ impl Rig for ScriptRig {
         self.input.clear();
         self.output.clear();
         self.servers.renew();
+        put(&mut self.disk, MemoryDisk::new(self.alloc, None));
         Ok(())
     }
 
@@ -46,6 +52,8 @@ impl Rig for ScriptRig {
             "match" => matches::answer(self.alloc, call, words),
             "world" => worlds::answer(self.alloc, call, words),
             "line" => commands::answer(self.alloc, call, words),
+            "mesh" => meshes::answer(self.alloc, call, words),
+            "disk" => incarnations::answer(self.alloc, &mut self.disk, call, words),
             "pipe" => pipes::answer(self.alloc, &self.input, &mut self.output, call, words),
             "n1" | "n2" | "n3" => self.servers.answer(name, words),
             _ => text(self.alloc, "no such call"),

@@ -234,20 +234,23 @@ fn opens_nothing<N: NodeName, R: Wait>(
     refused(pass.drop_job(rt, node, 1))
 }
 
-/// n1 is asked for a session that does not stand, to dial itself, and for frames to a server that is not there; and it receives a message
-/// that is for n2.
-fn has_no_session<N: NodeName, R: Wait>(
-    rt: &R,
-    alloc: Global,
-    node: &Node<N>,
-    pass: &mut Pass<N>,
-) -> Option<()> {
+/// n1 is asked for a session that does not stand.
+fn has_no_session<N: NodeName, R: Wait>(rt: &R, node: &Node<N>, pass: &mut Pass<N>) -> Option<()> {
     let Lives { n1, n2, inc } = first_lives()?;
     let session = SessionId::new(1);
     let connect = RouteConnect::new(n2, inc, n1, inc, 1)?;
     refused(pass.info(rt, node, session, &RouteInfo::new(n2, inc)))?;
     refused(pass.connect(rt, node, session, &connect))?;
-    refused(pass.cut(rt, node, session))?;
+    refused(pass.cut(rt, node, session))
+}
+
+/// n1 is asked to dial itself, and for frames to a server that is not there; and it receives a message that is for n2.
+fn has_no_such_peer<N: NodeName, R: Wait>(
+    rt: &R,
+    alloc: Global,
+    node: &Node<N>,
+    pass: &mut Pass<N>,
+) -> Option<()> {
     refused(pass.dial(rt, node, 0))?;
     refused(pass.take_frames(rt, node, 2, 1))?;
     refused(pass.receive(rt, node, &misled(alloc)?))
@@ -262,7 +265,8 @@ pub fn serve_in_vain<N: NodeName, R: Wait>(
 ) -> Option<()> {
     is_unknown(rt, node, pass, ConnId::new(9))?;
     opens_nothing(rt, alloc, node, pass, ConnId::new(9))?;
-    has_no_session(rt, alloc, node, pass)
+    has_no_session(rt, node, pass)?;
+    has_no_such_peer(rt, alloc, node, pass)
 }
 
 /// A client that publishes a window of publications, and one more, which is refused.

@@ -257,6 +257,50 @@ impl<C: ServerCalls> End<C> {
         self.server.stream_mut(key)?.feed(bytes).ok()
     }
 
+    /// Sets what the server goes by: its time, its next word, what came of a connection, or that it drains. Whether there is such a call.
+    fn set(&mut self, call: &str, number: u64) -> bool {
+        match call {
+            "time" => self.server.set_time(number),
+            "word" => self.server.set_word(word_from(number)),
+            "await_stream" => self.server.await_stream(self.key(number)),
+            "connected" => self.server.connected(self.key(number)),
+            "drain" => self.server.drain(number),
+            _ => return false,
+        }
+        true
+    }
+
+    /// A turn in which the connections of these numbers are ready.
+    fn turn<R: Wait>(&mut self, rt: &R, words: &Words<'_>) {
+        let (first, second) = (self.key(words.number(0)), self.key(words.number(1)));
+        self.server
+            .turn(rt, &[first, second, self.key(words.number(2))]);
+    }
+
+    /// A client comes who has sent these bytes.
+    fn add_sending<R: Wait>(&mut self, rt: &R, ready: &mut MemStream, bytes: &[u8]) -> Option<()> {
+        ready.feed(bytes).ok()?;
+        self.add(rt, ready, Side::Client)
+    }
+
+    /// Makes a call on one of the connections, or one that sets something. None where it cannot be made.
+    fn act_on<R: Wait>(&mut self, rt: &R, line: &Call<'_>, bytes: &[u8]) -> Option<()> {
+        let (call, first, number) = (line.name, line.words.number(0), line.words.number(1));
+        let key = self.key(first);
+        match call {
+            "send" => self.send(rt, key, number as usize, bytes),
+            "grant_until" => self.grant_until(rt, key, number, bytes),
+            _ if self.set(call, first) => Some(()),
+            _ => on_stream(
+                self.server.stream_mut(key)?,
+                self.alloc,
+                call,
+                number,
+                bytes,
+            ),
+        }
+    }
+
     /// Makes a call that asks nothing. None where it cannot be made.
     fn act<R: Wait>(
         &mut self,
@@ -265,34 +309,21 @@ impl<C: ServerCalls> End<C> {
         line: &Call<'_>,
         bytes: &[u8],
     ) -> Option<()> {
-        let (call, words) = (line.name, &line.words);
-        let (key, number) = (self.key(words.number(0)), words.number(1));
-        match call {
-            "add" => self.add(rt, ready, side_of(words.at(0)))?,
-            "add_sending" => {
-                ready.feed(bytes).ok()?;
-                self.add(rt, ready, Side::Client)?;
-            }
+        match line.name {
+            "add" => self.add(rt, ready, side_of(line.words.at(0))),
+            "add_sending" => self.add_sending(rt, ready, bytes),
+            "add_strangers" => self.add_strangers(rt, line.words.number(0)),
+            "secret" => self.guard(bytes),
             "turn" => {
-                let (second, third) = (self.key(number), self.key(words.number(2)));
-                self.server.turn(rt, &[key, second, third]);
+                self.turn(rt, &line.words);
+                Some(())
             }
-            "turn_on" => self.turn_on(rt),
-            "time" => self.server.set_time(words.number(0)),
-            "await_stream" => self.server.await_stream(key),
-            "connected" => self.server.connected(key),
-            "drain" => self.server.drain(words.number(0)),
-            "secret" => self.guard(bytes)?,
-            "word" => self.server.set_word(word_from(words.number(0))),
-            "add_strangers" => self.add_strangers(rt, words.number(0))?,
-            "send" => self.send(rt, key, number as usize, bytes)?,
-            "grant_until" => self.grant_until(rt, key, number, bytes)?,
-            _ => {
-                let stream = self.server.stream_mut(key)?;
-                on_stream(stream, self.alloc, call, number, bytes)?;
+            "turn_on" => {
+                self.turn_on(rt);
+                Some(())
             }
+            _ => self.act_on(rt, line, bytes),
         }
-        Some(())
     }
 
     /// How much was written to a connection.
@@ -363,6 +394,30 @@ impl<C: ServerCalls> End<C> {
         golden::told(self.alloc, told, Some(()))
     }
 
+    /// The answer of a call that asks for something of a connection.
+    fn ask_of(&self, call: &str, key: usize) -> Result<String, AllocError> {
+        let (alloc, stream) = (self.alloc, self.server.stream(key));
+        match call {
+            "is_there" => yes_or_no(alloc, stream.is_some()),
+            "shard" => number_told(alloc, "shard", self.server.shard(key), "none"),
+            _ => written_told(alloc, stream, call),
+        }
+    }
+
+    /// The answer of a call that asks for something of the server as it is, or of some of its connections.
+    fn ask_more(&self, line: &Call<'_>, bytes: &[u8]) -> Result<String, AllocError> {
+        let (alloc, first) = (self.alloc, line.words.number(0));
+        match line.name {
+            "goes_on" => yes_or_no(alloc, self.server.goes_on()),
+            "has_drained" => yes_or_no(alloc, self.server.has_drained()),
+            "next_turn" => number_told(alloc, "at", self.server.next_turn(), "never"),
+            "told" => self.told(),
+            "ends" => self.ends(first, first, bytes),
+            "ends_each" => self.ends(first, line.words.number(1), bytes),
+            call => self.ask_of(call, self.key(first)),
+        }
+    }
+
     /// The answer of a call that asks something.
     fn ask<R: Wait>(
         &mut self,
@@ -370,22 +425,13 @@ impl<C: ServerCalls> End<C> {
         line: &Call<'_>,
         bytes: &[u8],
     ) -> Result<String, AllocError> {
-        let (call, words, alloc) = (line.name, &line.words, self.alloc);
+        let words = &line.words;
         let (first, second) = (words.number(0), words.number(1));
-        let key = self.key(first);
-        match call {
-            "goes_on" => yes_or_no(alloc, self.server.goes_on()),
-            "has_drained" => yes_or_no(alloc, self.server.has_drained()),
-            "next_turn" => number_told(alloc, "at", self.server.next_turn(), "never"),
-            "is_there" => yes_or_no(alloc, self.server.stream(key).is_some()),
-            "shard" => number_told(alloc, "shard", self.server.shard(key), "none"),
-            "told" => self.told(),
-            "admits" => yes_or_no(alloc, self.admits(rt, first)),
+        match line.name {
+            "admits" => yes_or_no(self.alloc, self.admits(rt, first)),
             "gains" => self.gains(rt, line),
             "remove" => self.remove(rt, first, second.max(first), words.number(2)),
-            "ends" => self.ends(first, first, bytes),
-            "ends_each" => self.ends(first, second, bytes),
-            _ => written_told(alloc, self.server.stream(key), call),
+            _ => self.ask_more(line, bytes),
         }
     }
 }
@@ -508,26 +554,27 @@ fn numbers<C: ServerCalls, D: ServerCalls>(
     Some(share_of(call, times))
 }
 
+/// The calls that ask something.
+const QUESTIONS: [&str; 14] = [
+    "sent",
+    "length",
+    "failed",
+    "ends",
+    "ends_each",
+    "gains",
+    "is_there",
+    "shard",
+    "told",
+    "admits",
+    "goes_on",
+    "has_drained",
+    "next_turn",
+    "remove",
+];
+
 /// Whether the call asks something, so that it is answered by what all calls before it have come to.
 pub fn is_question(line: &Call<'_>) -> bool {
-    line.of == "numbers"
-        || matches!(
-            line.name,
-            "sent"
-                | "length"
-                | "failed"
-                | "ends"
-                | "ends_each"
-                | "gains"
-                | "is_there"
-                | "shard"
-                | "told"
-                | "admits"
-                | "goes_on"
-                | "has_drained"
-                | "next_turn"
-                | "remove"
-        )
+    line.of == "numbers" || QUESTIONS.contains(&line.name)
 }
 
 /// Makes a call that asks nothing. None where it cannot be made.

@@ -41,35 +41,57 @@ fn peer() -> Option<NodeId> {
     NodeId::read(b"n2").ok()
 }
 
+/// A server that has dialed from here is refused as a stranger.
+fn stranger_refused(port: u64) -> Event {
+    let from = Some(local(port));
+    Event::ConnectionRefused {
+        caller: Caller::Server { from },
+        cause: RefusalCause::Stranger,
+    }
+}
+
+/// Clients and other servers are awaited at these ports.
+fn listening(clients: u64, routes: u64) -> Event {
+    Event::Listening {
+        clients: local(clients),
+        routes: local(routes),
+    }
+}
+
+/// The name of the other server is found again.
+fn resolved(port: u64, failures: u64) -> Option<Event> {
+    Some(Event::PeerResolved {
+        peer: peer()?,
+        address: local(port),
+        failures,
+    })
+}
+
+/// The event of this name of the beginning or the end of a server, of which a number says more. None where there is no such one.
+fn end_of(call: &str, number: u64) -> Option<Event> {
+    match call {
+        "drain_asked" => Some(Event::DrainAsked { seconds: number }),
+        "drained" => Some(Event::Drained),
+        "drained_late" => Some(Event::DrainedLate { clients: number }),
+        "stopped" => Some(Event::Stopped),
+        "failed" => Some(Event::Failed {
+            cause: system_cause(number),
+        }),
+        _ => None,
+    }
+}
+
 /// The event of this name, of which two numbers say more. None where there is no such one.
 fn event_of(call: &str, first: u64, second: u64) -> Option<Event> {
-    let cause = system_cause(first);
-    Some(match call {
-        "listening" => Event::Listening {
-            clients: local(first),
-            routes: local(second),
-        },
-        "drain_asked" => Event::DrainAsked { seconds: first },
-        "drained" => Event::Drained,
-        "drained_late" => Event::DrainedLate { clients: first },
-        "stopped" => Event::Stopped,
-        "failed" => Event::Failed { cause },
-        "client_refused" => refused(Caller::Client, cause),
-        "server_refused" => refused(Caller::Server { from: None }, cause),
-        "stranger_refused" => Event::ConnectionRefused {
-            caller: Caller::Server {
-                from: Some(local(first)),
-            },
-            cause: RefusalCause::Stranger,
-        },
-        "unresolved" => Event::PeerUnresolved { peer: peer()? },
-        "resolved" => Event::PeerResolved {
-            peer: peer()?,
-            address: local(first),
-            failures: second,
-        },
-        _ => return None,
-    })
+    match call {
+        "listening" => Some(listening(first, second)),
+        "client_refused" => Some(refused(Caller::Client, system_cause(first))),
+        "server_refused" => Some(refused(Caller::Server { from: None }, system_cause(first))),
+        "stranger_refused" => Some(stranger_refused(first)),
+        "unresolved" => Some(Event::PeerUnresolved { peer: peer()? }),
+        "resolved" => resolved(first, second),
+        _ => end_of(call, first),
+    }
 }
 
 /// The line of an event, by the time in milliseconds since 1970, the server's name, and what says more of it.

@@ -185,6 +185,5 @@ impl<'r, R: Wait> Rig for ServerRig<'r, R> {
 }
 
 fn main(rt: HostRuntime) -> ExitCode {
-    let mut rig = ServerRig::new(&rt, rt.alloc());
-    golden::play(&rt, &mut rig)
+    golden::play(&rt, ServerRig::new(&rt, rt.alloc()))
 }

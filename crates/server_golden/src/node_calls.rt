@@ -198,8 +198,8 @@ fn on_conn<N: NodeName, R: Wait>(
     }
 }
 
-/// The answer of a call on the server, on a shard, or on one of its connections.
-fn first_answer<N: NodeName, R: Wait>(
+/// A call on a shard, or on one of its connections.
+fn on_shard<N: NodeName, R: Wait>(
     rt: &R,
     alloc: Global,
     node: &Node<N>,
@@ -208,16 +208,29 @@ fn first_answer<N: NodeName, R: Wait>(
 ) -> Result<String, AllocError> {
     let shard = words.number(0);
     match call {
-        "shards" => format!(in alloc; "shards {}", node.shards()),
-        "publish" => publish(rt, alloc, node, words),
-        "headers" => set_headers(rt, alloc, node, words),
-        "push_jobs" => push_jobs(rt, alloc, node),
-        "has_shard" => yes_or_no(alloc, node.shard(rt, shard).is_some()),
         "attach" => told(alloc, node.attach(rt, shard)),
         "collect" => told(alloc, node.collect(rt, shard)),
         "drop" => told(alloc, node.drop_job(rt, shard)),
         "turn" => turn_told(alloc, node.turn(rt, shard, &Open)),
         _ => on_conn(rt, alloc, node, shard, ConnId::new(words.number(1)), call),
+    }
+}
+
+/// The answer of a call on the server, on a shard, or on one of its connections.
+fn first_answer<N: NodeName, R: Wait>(
+    rt: &R,
+    alloc: Global,
+    node: &Node<N>,
+    call: &str,
+    words: &Words<'_>,
+) -> Result<String, AllocError> {
+    match call {
+        "shards" => format!(in alloc; "shards {}", node.shards()),
+        "has_shard" => yes_or_no(alloc, node.shard(rt, words.number(0)).is_some()),
+        "publish" => publish(rt, alloc, node, words),
+        "headers" => set_headers(rt, alloc, node, words),
+        "push_jobs" => push_jobs(rt, alloc, node),
+        _ => on_shard(rt, alloc, node, call, words),
     }
 }
 

@@ -6,6 +6,7 @@ ghost use Rattle.std.specs.Prelude.{◌≡◌};
 use crate::callers::{Node, serve_burst, serve_clients, serve_in_vain, serve_peer, serve_stray};
 use crate::node_calls;
 use golden::{Call, Words, call_of, server_of, text, yes_or_no};
+use node_threads::ShardEntry;
 use std::alloc::{AllocError, Global};
 use std::marker::Brand;
 use std::sync::Wait;
@@ -97,27 +98,31 @@ fn jobs_told(alloc: Global, jobs: &[IssuedJob]) -> Result<String, AllocError> {
     }
 }
 
+/// The last turns that a report tells, of the hub and of two shards.
+fn turns_told(alloc: Global, report: &Report) -> Result<String, AllocError> {
+    let finished = &report.finished;
+    format!(in alloc;
+        "issued {}, finished {} {}",
+        report.issued.get(),
+        finished.of(1).get(),
+        finished.of(2).get()
+    )
+}
+
+/// How many shards a report tells of, and how much of the first.
+fn worked_told(alloc: Global, worked: &[Vec<ShardEntry>]) -> Result<String, AllocError> {
+    let entries = worked.first().map_or(0, Vec::len);
+    format!(in alloc; "shards {}, entries of the first {entries}", worked.len())
+}
+
 /// What is asked of a report.
 fn report_told(alloc: Global, report: &Report, what: &str) -> Result<String, AllocError> {
     match what {
-        "turns" => {
-            format!(in alloc;
-                "issued {}, finished {} {}",
-                report.issued.get(),
-                report.finished.of(1).get(),
-                report.finished.of(2).get()
-            )
-        }
+        "turns" => turns_told(alloc, report),
         "jobs" => jobs_told(alloc, report.jobs.as_slice()),
         "kept" => yes_or_no(alloc, report.kept),
         "hub" => format!(in alloc; "entries {}", report.hub.len()),
-        "worked" => {
-            let entries = report.worked.first().map_or(0, Vec::len);
-            format!(in alloc;
-                "shards {}, entries of the first {entries}",
-                report.worked.len()
-            )
-        }
+        "worked" => worked_told(alloc, report.worked.as_slice()),
         _ => text(alloc, "reported"),
     }
 }

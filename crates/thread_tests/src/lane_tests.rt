@@ -50,16 +50,13 @@ fn job(rt: &impl Abort, alloc: Global, turn: Turn) -> Job
     }
 }
 
-/// The job is as it was made for this turn.
-fn assert_is_job(rt: &impl Abort, job: &Job, number: u64) {
-    assert_eq!(rt; job.turn.get(), number);
-    assert_eq!(rt; job.id, id(rt, number));
-    assert_eq!(rt; job.publisher, Some(ConnId::new(number)));
-    assert_eq!(rt; job.echo, number % 2 == 0);
-    assert_eq!(rt;
-        job.message.payload().as_slice(),
-        number.to_be_bytes().as_slice()
-    );
+/// Whether the job is as it was made for this turn.
+fn is_job(rt: &impl Abort, job: &Job, number: u64) -> bool {
+    job.turn.get() == number
+        && job.id == id(rt, number)
+        && job.publisher == Some(ConnId::new(number))
+        && job.echo == (number % 2 == 0)
+        && job.message.payload().as_slice() == number.to_be_bytes().as_slice()
 }
 
 /// A run of so many jobs behind this turn.
@@ -144,7 +141,7 @@ fn pop_most<R: Abort + Wait>(rt: &R, reader: LaneOut) -> LaneOut
     for popped in 0..POPPED {
         let turn = pop_in_time(rt, &mut reader);
         assert_eq!(rt; turn.get(), popped + 1);
-        assert_is_job(rt, reader.in_hand().expect(rt, "a job"), popped + 1);
+        assert!(rt; is_job(rt, reader.in_hand().expect(rt, "a job"), popped + 1));
     }
     reader
 }
@@ -178,7 +175,7 @@ fn assert_are_jobs(rt: &impl Abort, runs: &[Run], before: u64, last: u64) {
     for run in runs {
         for job in run.jobs() {
             number = number.checked_add(1).expect(rt, "a number");
-            assert_is_job(rt, job, number);
+            assert!(rt; is_job(rt, job, number));
         }
     }
     assert_eq!(rt; number, last);

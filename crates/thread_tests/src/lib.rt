@@ -1,5 +1,6 @@
 //! Races, lanes and servers on several threads, and meshes over sockets of this machine: what one thread and streams in memory show stands
-//! as cases in `server_golden`. There is nothing here but tests: beside the code, each of them would have that code proved once more.
+//! as cases in `server_golden`. Then the incarnations that a server takes in real folders.
+//! There is nothing here but tests: beside the code, each of them would have that code proved once more.
 //!
 //! What a test cannot have it ends with, and no value is let go of on the way: a test that gave an error back would be proved to let go of
 //! all that it has at each of them.
@@ -9,6 +10,8 @@
 mod claim_tests;
 #[cfg(test)]
 mod drain_tests;
+#[cfg(test)]
+mod incarnation_tests;
 #[cfg(test)]
 mod lane_tests;
 #[cfg(test)]

@@ -12,7 +12,8 @@ returns-in-Some c = unknown_in_file c.in-Some.key c.in-Some.ensures refl
 
 pub returns-in_default-as_array : goal.returns-in_default-as_array
 returns-in_default-as_array c =
-    no_array c.in_default.ensures (view c.in-Some-value_of.value.now) (sym c.in-Some-value_of.ensures) (sym c.in_default-as_array.ensures) refl
+    no_array c.in_default.ensures (view c.in-Some-value_of.value.now) (sym c.in-Some-value_of.ensures)
+    (sym c.in_default-as_array.ensures) refl
 
 pub returns-then-is_empty : goal.returns-then-is_empty
 returns-then-is_empty c =
@@ -21,6 +22,6 @@ returns-then-is_empty c =
       | then-is_empty-via-then-is_empty w ↦ inl (grind (arith, nat_tests))
       | then-is_empty-via-else-is_empty+then-entries-gt-MAX_NODES w ↦ inr (omega arith)
     ] in
-    count_fault (table_view c.args.file.now) (view c.in-Some-value_of.value.now) c.in-Some-as_array.entries.now.items c.as_slice-entries.result.now
-    (length c.as_slice-entries.result.now) c.in_default.ensures c.in-Some-value_of.ensures c.in-Some-as_array.ensures c.as_slice-entries.ensures.value
-    refl out
+    count_fault (table_view c.args.file.now) (view c.in-Some-value_of.value.now) c.in-Some-as_array.entries.now.items
+    c.as_slice-entries.result.now (length c.as_slice-entries.result.now) c.in_default.ensures c.in-Some-value_of.ensures
+    c.in-Some-as_array.ensures c.as_slice-entries.ensures.value refl out

@@ -4,5 +4,5 @@ use Rattle.mesh_file.proofs.tables.keys_in.Goals as goal
 
 pub returns-in-Some-unknown_key-clause-said : goal.returns-in-Some-unknown_key-clause-said
 returns-in-Some-unknown_key-clause-said c =
-    unknown_in_mesh (ap is_some (sym c.in-Some.ensures.same)) (ap is_some c.in-Some-secret_file_in.ensures) c.in-Some-unknown_key.key
-    c.in-Some-unknown_key.ensures refl
+    unknown_in_mesh (ap is_some (sym c.in-Some.ensures.same)) (ap is_some c.in-Some-secret_file_in.ensures)
+    c.in-Some-unknown_key.key c.in-Some-unknown_key.ensures refl

@@ -9,13 +9,22 @@ use Rattle.router_command.proofs.command.command_in.Goals as goal
 words_of : (name : Text) (rows : List Row) → name ≡ codes "match" → IsWhole (name, rows) → AreWords rows
 words_of name rows e whole = search rules
 
-path_of : (name : Text) (rows : List Row) → name ≡ codes "drain" → IsWhole (name, rows) → IsSome (first_of (codes "PATH") rows)
+path_of : (name : Text) (rows : List Row)
+    → name ≡ codes "drain"
+    → IsWhole (name, rows)
+    → IsSome (first_of (codes "PATH") rows)
 path_of name rows e whole = search rules
 
-file_of : (name : Text) (rows : List Row) → name ≡ codes "check" → IsWhole (name, rows) → IsSome (first_of (codes "FILE") rows)
+file_of : (name : Text) (rows : List Row)
+    → name ≡ codes "check"
+    → IsWhole (name, rows)
+    → IsSome (first_of (codes "FILE") rows)
 file_of name rows e whole = search rules
 
-whole_at : (found : Option (Text × List Row)) (name : Text) (rows : List Row) → found ≡ Some (name, rows) → IsSomeAnd found IsWhole → IsWhole (name, rows)
+whole_at : (found : Option (Text × List Row)) (name : Text) (rows : List Row)
+    → found ≡ Some (name, rows)
+    → IsSomeAnd found IsWhole
+    → IsWhole (name, rows)
 whole_at found name rows is whole = subst (λ (o : Option (Text × List Row)). IsSomeAnd o IsWhole) is whole
 
 pub unwrap-requires-in-match : goal.unwrap-requires-in-match
@@ -23,14 +32,16 @@ unwrap-requires-in-match c =
     let rows = rows_of (found_of c.unwrap.result.1.now) in
     let is : subcommand_rows_of c.args.found.now ≡ Some (c.unwrap.result.0.now, rows) = search rules in
     let name : c.unwrap.result.0.now ≡ codes "match" = search rules in
-    text_there (found_of c.unwrap.result.1.now) (codes "PATTERN") c.get_str.result c.get_str.ensures (words_of _ rows name (whole_at _ _ rows is c.requires)).pattern
+    text_there (found_of c.unwrap.result.1.now) (codes "PATTERN") c.get_str.result c.get_str.ensures
+    (words_of _ rows name (whole_at _ _ rows is c.requires)).pattern
 
 pub unwrap-requires-in-match-2 : goal.unwrap-requires-in-match-2
 unwrap-requires-in-match-2 c =
     let rows = rows_of (found_of c.unwrap.result.1.now) in
     let is : subcommand_rows_of c.args.found.now ≡ Some (c.unwrap.result.0.now, rows) = search rules in
     let name : c.unwrap.result.0.now ≡ codes "match" = search rules in
-    text_there (found_of c.unwrap.result.1.now) (codes "SUBJECT") c.get_str-in-match.result c.get_str-in-match.ensures (words_of _ rows name (whole_at _ _ rows is c.requires)).subject
+    text_there (found_of c.unwrap.result.1.now) (codes "SUBJECT") c.get_str-in-match.result c.get_str-in-match.ensures
+    (words_of _ rows name (whole_at _ _ rows is c.requires)).subject
 
 pub returns-in-match : goal.returns-in-match
 returns-in-match c =
@@ -40,8 +51,10 @@ returns-in-match c =
       rows,
       is,
       (
-        text_is found (codes "PATTERN") c.get_str.result c.unwrap-in-match.result c.get_str.ensures c.unwrap-in-match.ensures,
-        text_is found (codes "SUBJECT") c.get_str-in-match.result c.unwrap-in-match-2.result c.get_str-in-match.ensures c.unwrap-in-match-2.ensures,
+        text_is found (codes "PATTERN") c.get_str.result c.unwrap-in-match.result c.get_str.ensures
+            c.unwrap-in-match.ensures,
+        text_is found (codes "SUBJECT") c.get_str-in-match.result c.unwrap-in-match-2.result c.get_str-in-match.ensures
+            c.unwrap-in-match-2.ensures,
       ),
     )
 
@@ -57,7 +70,8 @@ unwrap-requires-in-drain c =
     let rows = rows_of (found_of c.unwrap.result.1.now) in
     let is : subcommand_rows_of c.args.found.now ≡ Some (c.unwrap.result.0.now, rows) = search rules in
     let name : c.unwrap.result.0.now ≡ codes "drain" = search rules in
-    text_there (found_of c.unwrap.result.1.now) (codes "PATH") c.get_str-in-drain.result c.get_str-in-drain.ensures (path_of _ rows name (whole_at _ _ rows is c.requires))
+    text_there (found_of c.unwrap.result.1.now) (codes "PATH") c.get_str-in-drain.result c.get_str-in-drain.ensures
+    (path_of _ rows name (whole_at _ _ rows is c.requires))
 
 pub returns-in-drain : goal.returns-in-drain
 returns-in-drain c =
@@ -67,7 +81,8 @@ returns-in-drain c =
       rows,
       is,
       (
-        text_is found (codes "PATH") c.get_str-in-drain.result c.unwrap-in-drain.result c.get_str-in-drain.ensures c.unwrap-in-drain.ensures,
+        text_is found (codes "PATH") c.get_str-in-drain.result c.unwrap-in-drain.result c.get_str-in-drain.ensures
+            c.unwrap-in-drain.ensures,
         text_if_there found (codes "NAME") c.get_str-in-drain-2.result c.get_str-in-drain-2.ensures,
       ),
     )
@@ -77,11 +92,16 @@ unwrap-requires-in-check c =
     let rows = rows_of (found_of c.unwrap.result.1.now) in
     let is : subcommand_rows_of c.args.found.now ≡ Some (c.unwrap.result.0.now, rows) = search rules in
     let name : c.unwrap.result.0.now ≡ codes "check" = search rules in
-    text_there (found_of c.unwrap.result.1.now) (codes "FILE") c.get_str-in-check.result c.get_str-in-check.ensures (file_of _ rows name (whole_at _ _ rows is c.requires))
+    text_there (found_of c.unwrap.result.1.now) (codes "FILE") c.get_str-in-check.result c.get_str-in-check.ensures
+    (file_of _ rows name (whole_at _ _ rows is c.requires))
 
 pub returns-in-check : goal.returns-in-check
 returns-in-check c =
     let found = found_of c.unwrap.result.1.now in
     let rows = rows_of found in
-    let is : subcommand_rows_of c.args.found.now ≡ Some (codes "check", rows) = search rules in
-    (rows, is, text_is found (codes "FILE") c.get_str-in-check.result c.unwrap-in-check.result c.get_str-in-check.ensures c.unwrap-in-check.ensures)
+    let is : subcommand_rows_of c.args.found.now ≡ Some (codes "check", rows) = search rules in (
+      rows,
+      is,
+      text_is found (codes "FILE") c.get_str-in-check.result c.unwrap-in-check.result c.get_str-in-check.ensures
+          c.unwrap-in-check.ensures,
+    )

@@ -14,41 +14,52 @@ use Rattle.router_command.proofs.command.command_of.Goals as goal
 as_router : (P : App → Type 0) (a : App) → a ≡ router → (is_simple_and_free a ≡ true → P a) → P router
 as_router P a same told = subst P same (told (ap is_simple_and_free same ∙ is_exact))
 
-found_is : (a : App) (words : List Text) (found : Option (Text × List Row)) → a ≡ router → (is_simple a ≡ true → found ≡ subcommand_of a words) → found ≡ subcommand_of router words
-found_is a words found same told = told (ap is_simple same ∙ is_simple_line) ∙ ap (λ (b : App). subcommand_of b words) same
+found_is : (a : App) (words : List Text) (found : Option (Text × List Row))
+    → a ≡ router
+    → (is_simple a ≡ true → found ≡ subcommand_of a words)
+    → found ≡ subcommand_of router words
+found_is a words found same told =
+    told (ap is_simple same ∙ is_simple_line) ∙ ap (λ (b : App). subcommand_of b words) same
 
 pub returns-in_err-found-clause-refused : goal.returns-in_err-found-clause-refused
 returns-in_err-found-clause-refused c =
     let words = map string_bytes c.args.words.now in
-    let kinds : HasKind (fault_of router words) c.in_err-found.field-0.0 =
-    as_router (λ (a : App). HasKind (fault_of a words) c.in_err-found.field-0.0) (app_of c.in_ok-line.field-0) c.in_ok-line.ensures.same c.in_err-found.ensures.kinds in
-    fails_by_from (fault_of router words) c.from_residual-in_err-found.result c.in_err-found.field-0.0 kinds c.from_residual-in_err-found.ensures.0 c.from_residual-in_err-found.ensures.1
+    let kinds : HasKind (fault_of router words) c.in_err-found.field-0.0 = as_router
+    (λ (a : App). HasKind (fault_of a words) c.in_err-found.field-0.0) (app_of c.in_ok-line.field-0)
+    c.in_ok-line.ensures.same c.in_err-found.ensures.kinds in
+    fails_by_from (fault_of router words) c.from_residual-in_err-found.result c.in_err-found.field-0.0 kinds
+    c.from_residual-in_err-found.ensures.0 c.from_residual-in_err-found.ensures.1
 
 pub returns-in_err-found-clause-taken : goal.returns-in_err-found-clause-taken
 returns-in_err-found-clause-taken c =
     let words = map string_bytes c.args.words.now in
     let told : takes router words ≡ true → kind_of c.in_err-found.field-0.0 ≡ OutOfMemory =
-    subst (λ (a : App). takes a words ≡ true → kind_of c.in_err-found.field-0.0 ≡ OutOfMemory) c.in_ok-line.ensures.same c.in_err-found.ensures.passes in
-    passed_up c.from_residual-in_err-found.result c.in_err-found.field-0.0 (λ e. takes router words ≡ true → kind_of e ≡ OutOfMemory) c.from_residual-in_err-found.ensures.1 told
+    subst (λ (a : App). takes a words ≡ true → kind_of c.in_err-found.field-0.0 ≡ OutOfMemory) c.in_ok-line.ensures.same
+    c.in_err-found.ensures.passes in
+    passed_up c.from_residual-in_err-found.result c.in_err-found.field-0.0
+    (λ e. takes router words ≡ true → kind_of e ≡ OutOfMemory) c.from_residual-in_err-found.ensures.1 told
 
 pub command_in-requires : goal.command_in-requires
 command_in-requires c =
     let words = map string_bytes c.args.words.now in
-    let none : fault_of router words ≡ [] =
-    as_router (λ (a : App). fault_of a words ≡ []) (app_of c.in_ok-line.field-0) c.in_ok-line.ensures.same c.in_ok-found.ensures.kinds in
+    let none : fault_of router words ≡ [] = as_router (λ (a : App). fault_of a words ≡ []) (app_of c.in_ok-line.field-0)
+    c.in_ok-line.ensures.same c.in_ok-found.ensures.kinds in
     let is : subcommand_rows_of c.in_ok-found.found ≡ subcommand_of router words =
-    found_is (app_of c.in_ok-line.field-0) words _ c.in_ok-line.ensures.same (λ simple. (c.in_ok-found.ensures.matches simple).1) in
+    found_is (app_of c.in_ok-line.field-0) words _ c.in_ok-line.ensures.same
+    (λ simple. (c.in_ok-found.ensures.matches simple).1) in
     subst (λ (o : Option (Text × List Row)). IsSomeAnd o IsWhole) (sym is) (taken_whole words none)
 
 pub returns-clause-asked : goal.returns-clause-asked
 returns-clause-asked c =
     let words = map string_bytes c.args.words.now in
     let is : subcommand_rows_of c.in_ok-found.found ≡ subcommand_of router words =
-    found_is (app_of c.in_ok-line.field-0) words _ c.in_ok-line.ensures.same (λ simple. (c.in_ok-found.ensures.matches simple).1) in
+    found_is (app_of c.in_ok-line.field-0) words _ c.in_ok-line.ensures.same
+    (λ simple. (c.in_ok-found.ensures.matches simple).1) in
     let named = c.command_in.ensures in
     (named.0, sym is ∙ named.1, named.2)
 
 pub returns-clause-refused : goal.returns-clause-refused
 returns-clause-refused c =
     let words = map string_bytes c.args.words.now in
-    as_router (λ (a : App). fault_of a words ≡ []) (app_of c.in_ok-line.field-0) c.in_ok-line.ensures.same c.in_ok-found.ensures.kinds
+    as_router (λ (a : App). fault_of a words ≡ []) (app_of c.in_ok-line.field-0) c.in_ok-line.ensures.same
+    c.in_ok-found.ensures.kinds

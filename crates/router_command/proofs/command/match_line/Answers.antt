@@ -8,12 +8,21 @@ use Rattle.router_command.proofs.command.match_line.Goals as goal
 
 pub returns : goal.returns
 returns c =
-    let new : HasRule c.new.result (new_rule (codes "PATTERN")) = record { same = c.new.ensures.rule; local = c.new.ensures.optional.1 } in
-    let pattern = same_but c.new.result c.required-pattern.result required_rule (new_rule (codes "PATTERN")) new
-    (ap (λ (a : Arg). rule_of a) c.required-pattern.ensures) (ap (λ (a : Arg). a.global) c.required-pattern.ensures) in
-    let bare : HasRule c.new-2.result (new_rule (codes "SUBJECT")) = record { same = c.new-2.ensures.rule; local = c.new-2.ensures.optional.1 } in
-    let subject = same_but c.new-2.result c.required-subject.result required_rule (new_rule (codes "SUBJECT")) bare
-    (ap (λ (a : Arg). rule_of a) c.required-subject.ensures) (ap (λ (a : Arg). a.global) c.required-subject.ensures) in
-    let one = with_arg c.bare.result c.in_ok-arg.field-0 c.required-pattern.result (new_app (codes "match")) (required_rule (new_rule (codes "PATTERN"))) c.bare.ensures pattern c.in_ok-arg.ensures in
-    IfOk-weaker c.arg-2.result _ _
-    (λ command added. with_arg c.in_ok-arg.field-0 command c.required-subject.result _ (required_rule (new_rule (codes "SUBJECT"))) one subject added) c.arg-2.ensures
+    let new : HasRule c.new.result (new_rule (codes "PATTERN")) = record {
+      same = c.new.ensures.rule;
+      local = c.new.ensures.optional.1;
+    } in
+    let pattern = same_but c.new.result c.required.result required_rule (new_rule (codes "PATTERN")) new
+    (ap (λ (a : Arg). rule_of a) c.required.ensures) (ap (λ (a : Arg). a.global) c.required.ensures) in
+    let bare : HasRule c.new-2.result (new_rule (codes "SUBJECT")) = record {
+      same = c.new-2.ensures.rule;
+      local = c.new-2.ensures.optional.1;
+    } in
+    let subject = same_but c.new-2.result c.required-2.result required_rule (new_rule (codes "SUBJECT")) bare
+    (ap (λ (a : Arg). rule_of a) c.required-2.ensures) (ap (λ (a : Arg). a.global) c.required-2.ensures) in
+    let one = IfOk-weaker c.arg-command.result _ _
+    (λ command added.
+    with_arg c.bare.result command c.required.result (new_app (codes "match"))
+    (required_rule (new_rule (codes "PATTERN"))) c.bare.ensures pattern added)
+    c.arg-command.ensures in
+    c.with_arg.ensures _ (required_rule (new_rule (codes "SUBJECT"))) one subject

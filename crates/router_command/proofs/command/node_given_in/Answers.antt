@@ -5,28 +5,43 @@ use Rattle.router_command.proofs.Texts.{text_if_there, text_is, text_there}
 use Rattle.router_command.proofs.command.node_given_in.Goals as goal
 
 pub unwrap-requires : goal.unwrap-requires
-unwrap-requires c = text_there (found_of c.args.values.now) (codes "NAME") c.get_str.result c.get_str.ensures c.requires.name
+unwrap-requires c =
+    text_there (found_of c.args.values.now) (codes "NAME") c.get_str.result c.get_str.ensures c.requires.name
 
 pub unwrap-requires-2 : goal.unwrap-requires-2
-unwrap-requires-2 c = text_there (found_of c.args.values.now) (codes "mesh") c.get_str-2.result c.get_str-2.ensures c.requires.mesh
+unwrap-requires-2 c =
+    text_there (found_of c.args.values.now) (codes "mesh") c.get_str-2.result c.get_str-2.ensures c.requires.mesh
 
 pub unwrap-requires-3 : goal.unwrap-requires-3
-unwrap-requires-3 c = text_there (found_of c.args.values.now) (codes "state") c.get_str-3.result c.get_str-3.ensures c.requires.state
+unwrap-requires-3 c =
+    text_there (found_of c.args.values.now) (codes "state") c.get_str-3.result c.get_str-3.ensures c.requires.state
 
 pub unwrap-requires-4 : goal.unwrap-requires-4
-unwrap-requires-4 c = text_there (found_of c.args.values.now) (codes "log-level") c.get_str-4.result c.get_str-4.ensures c.requires.log_level
+unwrap-requires-4 c =
+    text_there (found_of c.args.values.now) (codes "log-level") c.get_str-4.result c.get_str-4.ensures
+    c.requires.log_level
 
 pub unwrap-requires-5 : goal.unwrap-requires-5
-unwrap-requires-5 c = number_there (found_of c.args.values.now) (codes "drain-seconds") c.get_one-2.result c.get_one-2.ensures.none c.get_one-2.ensures.value c.requires.drain_seconds
+unwrap-requires-5 c =
+    number_there (found_of c.args.values.now) (codes "drain-seconds") c.get_one-2.result c.get_one-2.ensures.none
+    c.get_one-2.ensures.value c.requires.drain_seconds
 
 pub returns : goal.returns
-returns c = let found = found_of c.args.values.now in record {
-  written = c.requires;
-  name = text_is found (codes "NAME") c.get_str.result c.unwrap.result c.get_str.ensures c.unwrap.ensures;
-  mesh = text_is found (codes "mesh") c.get_str-2.result c.unwrap-2.result c.get_str-2.ensures c.unwrap-2.ensures;
-  state = text_is found (codes "state") c.get_str-3.result c.unwrap-3.result c.get_str-3.ensures c.unwrap-3.ensures;
-  least_inc = number_if_read found (codes "least-inc") c.get_one.result c.get_one.ensures.none c.get_one.ensures.value c.requires.least_inc;
-  log_level = text_is found (codes "log-level") c.get_str-4.result c.unwrap-4.result c.get_str-4.ensures c.unwrap-4.ensures;
-  drain_seconds = number_read found (codes "drain-seconds") c.get_one-2.result c.get_one-2.ensures.none c.get_one-2.ensures.value c.requires.drain_seconds ∙ c.unwrap-5.ensures;
-  control = text_if_there found (codes "control") c.get_str-5.result c.get_str-5.ensures;
-}
+returns c =
+    let found = found_of c.args.values.now in
+    record {
+      written = c.requires;
+      name = text_is found (codes "NAME") c.get_str.result c.unwrap.result c.get_str.ensures c.unwrap.ensures;
+      mesh = text_is found (codes "mesh") c.get_str-2.result c.unwrap-2.result c.get_str-2.ensures c.unwrap-2.ensures;
+      state = text_is found (codes "state") c.get_str-3.result c.unwrap-3.result c.get_str-3.ensures c.unwrap-3.ensures;
+      least_inc =
+          number_if_read found (codes "least-inc") c.get_one.result c.get_one.ensures.none c.get_one.ensures.value
+          c.requires.least_inc;
+      log_level =
+          text_is found (codes "log-level") c.get_str-4.result c.unwrap-4.result c.get_str-4.ensures c.unwrap-4.ensures;
+      drain_seconds =
+          number_read found (codes "drain-seconds") c.get_one-2.result c.get_one-2.ensures.none
+          c.get_one-2.ensures.value c.requires.drain_seconds
+          ∙ c.unwrap-5.ensures;
+      control = text_if_there found (codes "control") c.get_str-5.result c.get_str-5.ensures;
+    }

@@ -7,4 +7,5 @@ use Rattle.script_form.proofs.script.read_names.Given as goal
 
 -- the names so far and those of the rest are all
 abbrev pub invariant-loop-item : goal.invariant-loop-item
-invariant-loop-item l = front l.names.items (each node (items_view (drop l.item-index l.items))) ≡ each node (items_view l.items)
+invariant-loop-item l =
+    front l.names.items (each node (items_view (drop l.item-index l.items))) ≡ each node (items_view l.items)

@@ -9,27 +9,60 @@ use Rattle.router_command.proofs.options.Options.new.Goals as goal
 pub returns-in_default-clause-refused : goal.returns-in_default-clause-refused
 returns-in_default-clause-refused c =
     let none : None ≡ incarnation_of c.args.given.inc = search rules in
-    rw (← c.in_ok-nodes.ensures.refused, ← c.in_ok-port.ensures.refused, ← c.in_ok-shards.ensures.refused, ← (inc_fails c.args.given.inc none)) refl
+    rw (
+      ← c.in_ok-nodes.ensures.refused,
+      ← c.in_ok-port.ensures.refused,
+      ← c.in_ok-shards.ensures.refused,
+      ← (inc_fails c.args.given.inc none),
+    )
+    refl
 
 pub returns-in_err-stop_within-clause-refused : goal.returns-in_err-stop_within-clause-refused
 returns-in_err-stop_within-clause-refused c =
-    let told : result_err c.from_residual-in_err-stop_within.result ≡ Some c.in_err-stop_within.field-0.0 = search rules in
+    let told : result_err c.from_residual-in_err-stop_within.result ≡ Some c.in_err-stop_within.field-0.0 =
+    search rules in
     let inc = inc_passes c.args.given.inc c.in-Some.inc c.in-Some.ensures in
-    rw (← c.in_ok-nodes.ensures.refused, ← c.in_ok-port.ensures.refused, ← c.in_ok-shards.ensures.refused, ← inc, ← c.in_err-stop_within.ensures) told
+    rw (
+      ← c.in_ok-nodes.ensures.refused,
+      ← c.in_ok-port.ensures.refused,
+      ← c.in_ok-shards.ensures.refused,
+      ← inc,
+      ← c.in_err-stop_within.ensures,
+    )
+    told
 
 pub returns-in_err-drain_seconds-clause-refused : goal.returns-in_err-drain_seconds-clause-refused
 returns-in_err-drain_seconds-clause-refused c =
-    let told : result_err c.from_residual-in_err-drain_seconds.result ≡ Some c.in_err-drain_seconds.field-0.0 = search rules in
+    let told : result_err c.from_residual-in_err-drain_seconds.result ≡ Some c.in_err-drain_seconds.field-0.0 =
+    search rules in
     let inc = inc_passes c.args.given.inc c.in-Some.inc c.in-Some.ensures in
-    rw (← c.in_ok-nodes.ensures.refused, ← c.in_ok-port.ensures.refused, ← c.in_ok-shards.ensures.refused, ← inc, ← c.in_ok-stop_within.ensures, ← c.in_err-drain_seconds.ensures.refused) told
+    rw (
+      ← c.in_ok-nodes.ensures.refused,
+      ← c.in_ok-port.ensures.refused,
+      ← c.in_ok-shards.ensures.refused,
+      ← inc,
+      ← c.in_ok-stop_within.ensures,
+      ← c.in_err-drain_seconds.ensures.refused,
+    )
+    told
 
 pub returns-in_err-ports_within-clause-refused : goal.returns-in_err-ports_within-clause-refused
 returns-in_err-ports_within-clause-refused c =
-    let told : result_err c.from_residual-in_err-ports_within.result ≡ Some c.in_err-ports_within.field-0.0 = search rules in
+    let told : result_err c.from_residual-in_err-ports_within.result ≡ Some c.in_err-ports_within.field-0.0 =
+    search rules in
     let inc = inc_passes c.args.given.inc c.in-Some.inc c.in-Some.ensures in
     let ports : Some c.in_err-ports_within.field-0.0 ≡ ports_fault c.args.given.port c.args.given.nodes =
     rw (← c.in_ok-port.ensures.same, ← c.in_ok-nodes.ensures.same) c.in_err-ports_within.ensures.refused in
-    rw (← c.in_ok-nodes.ensures.refused, ← c.in_ok-port.ensures.refused, ← c.in_ok-shards.ensures.refused, ← inc, ← c.in_ok-stop_within.ensures, ← c.in_ok-drain_seconds.ensures.refused, ← ports) told
+    rw (
+      ← c.in_ok-nodes.ensures.refused,
+      ← c.in_ok-port.ensures.refused,
+      ← c.in_ok-shards.ensures.refused,
+      ← inc,
+      ← c.in_ok-stop_within.ensures,
+      ← c.in_ok-drain_seconds.ensures.refused,
+      ← ports,
+    )
+    told
 
 pub returns-in_default-level_named-clause-refused : goal.returns-in_default-level_named-clause-refused
 returns-in_default-level_named-clause-refused c =
@@ -37,16 +70,38 @@ returns-in_default-level_named-clause-refused c =
     let inc = inc_passes c.args.given.inc c.in-Some.inc c.in-Some.ensures in
     let ports : None ≡ ports_fault c.args.given.port c.args.given.nodes =
     rw (← c.in_ok-port.ensures.same, ← c.in_ok-nodes.ensures.same) c.in_ok-ports_within.ensures.refused in
-    rw (← c.in_ok-nodes.ensures.refused, ← c.in_ok-port.ensures.refused, ← c.in_ok-shards.ensures.refused, ← inc, ← c.in_ok-stop_within.ensures, ← c.in_ok-drain_seconds.ensures.refused, ← ports, ← (level_fails c.args.given.log_level.now none)) refl
+    rw (
+      ← c.in_ok-nodes.ensures.refused,
+      ← c.in_ok-port.ensures.refused,
+      ← c.in_ok-shards.ensures.refused,
+      ← inc,
+      ← c.in_ok-stop_within.ensures,
+      ← c.in_ok-drain_seconds.ensures.refused,
+      ← ports,
+      ← (level_fails c.args.given.log_level.now none),
+    )
+    refl
 
 pub returns-in_err-control_within-clause-refused : goal.returns-in_err-control_within-clause-refused
 returns-in_err-control_within-clause-refused c =
-    let told : result_err c.from_residual-in_err-control_within.result ≡ Some c.in_err-control_within.field-0.0 = search rules in
+    let told : result_err c.from_residual-in_err-control_within.result ≡ Some c.in_err-control_within.field-0.0 =
+    search rules in
     let inc = inc_passes c.args.given.inc c.in-Some.inc c.in-Some.ensures in
     let ports : None ≡ ports_fault c.args.given.port c.args.given.nodes =
     rw (← c.in_ok-port.ensures.same, ← c.in_ok-nodes.ensures.same) c.in_ok-ports_within.ensures.refused in
     let level = level_passes c.args.given.log_level.now c.in-Some-level_named.log_level c.in-Some-level_named.ensures in
-    rw (← c.in_ok-nodes.ensures.refused, ← c.in_ok-port.ensures.refused, ← c.in_ok-shards.ensures.refused, ← inc, ← c.in_ok-stop_within.ensures, ← c.in_ok-drain_seconds.ensures.refused, ← ports, ← level, ← c.in_err-control_within.ensures.refused) told
+    rw (
+      ← c.in_ok-nodes.ensures.refused,
+      ← c.in_ok-port.ensures.refused,
+      ← c.in_ok-shards.ensures.refused,
+      ← inc,
+      ← c.in_ok-stop_within.ensures,
+      ← c.in_ok-drain_seconds.ensures.refused,
+      ← ports,
+      ← level,
+      ← c.in_err-control_within.ensures.refused,
+    )
+    told
 
 pub returns-clause-refused : goal.returns-clause-refused
 returns-clause-refused c =
@@ -54,4 +109,15 @@ returns-clause-refused c =
     let ports : None ≡ ports_fault c.args.given.port c.args.given.nodes =
     rw (← c.in_ok-port.ensures.same, ← c.in_ok-nodes.ensures.same) c.in_ok-ports_within.ensures.refused in
     let level = level_passes c.args.given.log_level.now c.in-Some-level_named.log_level c.in-Some-level_named.ensures in
-    rw (← c.in_ok-nodes.ensures.refused, ← c.in_ok-port.ensures.refused, ← c.in_ok-shards.ensures.refused, ← inc, ← c.in_ok-stop_within.ensures, ← c.in_ok-drain_seconds.ensures.refused, ← ports, ← level, ← c.in_ok-control_within.ensures.refused) refl
+    rw (
+      ← c.in_ok-nodes.ensures.refused,
+      ← c.in_ok-port.ensures.refused,
+      ← c.in_ok-shards.ensures.refused,
+      ← inc,
+      ← c.in_ok-stop_within.ensures,
+      ← c.in_ok-drain_seconds.ensures.refused,
+      ← ports,
+      ← level,
+      ← c.in_ok-control_within.ensures.refused,
+    )
+    refl
