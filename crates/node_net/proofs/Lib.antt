@@ -8,5 +8,9 @@ pub mod TurnLemmas
 pub mod RouteLemmas
 -- shards that are worked, job by job and shard by shard
 pub mod WorkLemmas
--- frames that are spelt one behind the other
+-- changes of what stands in a table
+pub mod KeyedLemmas
+-- what is taken of a shard for its clients, and sent to them
+pub mod TakingLemmas
+-- frames that are spelt one behind the other, and sent
 pub mod TellingLemmas

@@ -6,5 +6,11 @@ pub mod Holds
 pub mod Routes
 -- which shards a turn of the loop works
 pub mod Turning
+-- what becomes of what stands in a table
+pub mod Keyed
+-- which of all bytes that were taken stand in a part
+pub mod Parts
+-- what is taken of a shard for its clients, and sent to them
+pub mod Taking
 -- what another server is told
 pub mod Telling

@@ -4,6 +4,7 @@ use Rattle.std.specs.Bool.{OnTrue, OnFalse}
 use Rattle.std.specs.Option.{option_or}
 use Rattle.net_streams.specs.Writes.{Came}
 use Rattle.net_streams.specs.Lives.{Happening, put, taken, Lives, all_taken}
+use Rattle.node_net.specs.Keyed.{Behind}
 use Rattle.node_net.specs.declared.connection.Cause.TheVariants.{OutOfMemory}
 use Rattle.node_net.specs.declared.connection.Connection.{Connection}
 use Rattle.node_net.specs.declared.connection.Ending.{Ending}
@@ -87,6 +88,58 @@ abbrev pub Sends : {S : Type 0} → (S → Came → S → Type 0) → (S → Cam
     → List ℕ → Connection S → Type 0
 Sends gave wrote old bytes new =
     OnTrue old.has_gap (new ≡ old) × OnFalse old.has_gap (KeepsOrLoses gave wrote old bytes new)
+
+-- Bytes that were taken for it are sent. It is given up where it is to be closed and all is
+-- written.
+abbrev pub SendsTaken : {S : Type 0} → (S → Came → S → Type 0) → (S → Came → S → Type 0) → List ℕ
+    → Connection S → Connection S → Type 0
+SendsTaken {S} gave wrote bytes old new =
+    (sent : Connection S) × Sends gave wrote old bytes sent × (new ≡ closed_if_written sent)
+
+-- What was encoded is sent, where there was memory for all of it. Else it is given up, and is sent
+-- nothing more.
+abbrev pub SendsWhole : {S : Type 0} → (S → Came → S → Type 0) → (S → Came → S → Type 0) → List ℕ
+    → Bool → Connection S → Connection S → Type 0
+SendsWhole gave wrote bytes is_whole old new =
+    OnTrue is_whole (Sends gave wrote old bytes new) × OnFalse is_whole (new ≡ out_of_memory old)
+
+-- ---- what is noted of it
+
+-- All that changes is whether it is noted that it goes.
+abbrev pub IsNoted : {S : Type 0} → Connection S → Connection S → Type 0
+IsNoted old new = new ≡ record old { is_leaving = new.is_leaving }
+
+-- All that changes is when its buffers are given back.
+abbrev pub Rests : {S : Type 0} → Connection S → Connection S → Type 0
+Rests old new = new ≡ record old { rests_at = new.rests_at }
+
+-- All that changes is how it ends, and until when it may stay.
+abbrev pub IsLimited : {S : Type 0} → Connection S → Connection S → Type 0
+IsLimited old new = new ≡ record old { ending = new.ending; deadline = new.deadline }
+
+-- Nothing is sent to it and nothing is read of it: the stream is the same, with what waits for it
+-- and with who is at the other end.
+pub record KeepsStream {S : Type 0} (old new : Connection S) : Type 0 where
+  pub wire : new.wire ≡ old.wire
+  pub out : new.out ≡ old.out
+  pub gap : new.has_gap ≡ old.has_gap
+  pub link : new.link ≡ old.link
+
+-- All that changes is why the server ends it, and whether that was told.
+abbrev pub IsBlamed : {S : Type 0} → Connection S → Connection S → Type 0
+IsBlamed old new = new ≡ record old { cause = new.cause; is_told = new.is_told }
+
+-- It is given up.
+abbrev pub GivesUp : {S : Type 0} → Connection S → Connection S → Type 0
+GivesUp old new = new ≡ record old { ending = Gone }
+
+-- It is given up, and may be noted for that.
+abbrev pub IsGivenUp : {S : Type 0} → Connection S → Connection S → Type 0
+IsGivenUp = Behind GivesUp IsNoted
+
+-- The same, for a cause.
+abbrev pub IsGivenUpFor : {S : Type 0} → Connection S → Connection S → Type 0
+IsGivenUpFor = Behind IsBlamed IsGivenUp
 
 -- ---- what follows
 

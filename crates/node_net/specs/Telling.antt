@@ -1,10 +1,59 @@
 -- What another server is told.
-use Rattle.std.specs.Prelude.{ℕ, List, [], ◌∷◌, ◌++◌}
+use Rattle.std.specs.Prelude.{◌≡◌, ◌⊎◌, ℕ, zero, suc, List, [], ◌∷◌, ◌++◌}
+use Rattle.slab.specs.Slab.{Slab}
+use Rattle.net_streams.specs.Writes.{Came}
 use Rattle.route_values.specs.Frames.{Frame}
 use Rattle.route_values.specs.declared.frames.RouteFrame.TheVariants.{Numbered}
 use Rattle.route_frames.specs.Canonical.{frame_bytes}
+use Rattle.server_calls.specs.Routed.{Routed, took, WasRouted}
+use Rattle.node_net.specs.Keyed.{ChangesAt, Behind}
+use Rattle.node_net.specs.Sending.{Sends, out_of_memory, IsNoted, IsGivenUpFor}
+use Rattle.node_net.specs.declared.connection.Connection.{Connection}
 
 -- the spelling of frames, one behind the other
 abbrev pub spelling : List Frame → List ℕ
 spelling [] = []
 spelling (frame ∷ frames) = frame_bytes (Numbered frame) ++ spelling frames
+
+-- Frames are sent to a connection as their spelling; or there was no memory for that, and it is
+-- given up and is sent nothing more.
+abbrev pub SendsFrames : {S : Type 0} → (S → Came → S → Type 0) → (S → Came → S → Type 0)
+    → List Frame → Connection S → Connection S → Type 0
+SendsFrames gave wrote frames old new =
+    Sends gave wrote old (spelling frames) new ⊎ (new ≡ out_of_memory old)
+
+-- Frames are sent to the connection at this key, and nothing to any other one. Where there are
+-- none, nothing may change.
+abbrev pub TellsFrames : {S : Type 0} → (S → Came → S → Type 0) → (S → Came → S → Type 0) → ℕ
+    → List Frame → Slab (Connection S) → Slab (Connection S) → Type 0
+TellsFrames gave wrote key frames old new =
+    ((frames ≡ []) × (new ≡ old))
+    ⊎ ChangesAt (Behind (SendsFrames gave wrote frames) IsNoted) key old new
+
+-- Under one hold of the hub at most so many frames are taken that wait for the server at this
+-- place, and just these are sent to the connection at this key.
+pub record TellsSome {H S : Type 0} (routed : H → Routed → H → Type 0)
+    (gave wrote : S → Came → S → Type 0) (peer count key : ℕ) (old new : Slab (Connection S)) :
+    Type 0 where
+  pub frames : List Frame
+  pub taken : WasRouted routed (took peer count frames)
+  pub told : TellsFrames gave wrote key frames old new
+
+-- That is done so many times in a row.
+abbrev pub TellsMany : {H S : Type 0} → (H → Routed → H → Type 0) → (S → Came → S → Type 0)
+    → (S → Came → S → Type 0) → ℕ → ℕ → Slab (Connection S) → ℕ → Slab (Connection S) → Type 0
+TellsMany routed gave wrote peer key old zero new = new ≡ old
+TellsMany {H} {S} routed gave wrote peer key old (suc rounds) new =
+    (mid : Slab (Connection S))
+    × (count : ℕ)
+    × TellsMany routed gave wrote peer key old rounds mid
+    × TellsSome routed gave wrote peer count key mid new
+
+-- That is done any number of times; and then the connection may be given up.
+pub record TellsPeer {H S : Type 0} (routed : H → Routed → H → Type 0)
+    (gave wrote : S → Came → S → Type 0) (peer key : ℕ) (old new : Slab (Connection S)) : Type 0
+  where
+    pub rounds : ℕ
+    pub mid : Slab (Connection S)
+    pub many : TellsMany routed gave wrote peer key old rounds mid
+    pub ends : (new ≡ mid) ⊎ ChangesAt IsGivenUpFor key mid new

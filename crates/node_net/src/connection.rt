@@ -1,10 +1,11 @@
 //! A connection of a server: its stream, and what is read of it and written to it.
 
-ghost use Rattle.std.specs.Prelude.{◌≡◌, ◌↔◌, ◌⊎◌, ◌-◌, ◌^◌, min, if◌then◌else◌, true, false, ◌||◌, nat_lt, [], length, IfSome, IfNone, IsTrue};
+ghost use Rattle.std.specs.Prelude.{◌≡◌, ℕ, List, ◌++◌, ◌↔◌, ◌⊎◌, ◌-◌, ◌^◌, min, if◌then◌else◌, true, false, ◌||◌, nat_lt, [], length, IfSome, IfNone, IsTrue};
 ghost use Rattle.std.specs.Bool.{OnTrue, OnFalse};
 ghost use Rattle.net_streams.specs.Writes.{HasWritten};
+ghost use Rattle.node_net.specs.Taking.{IsClientOf, Gives};
 ghost use Rattle.node_net.specs.Holds.{is_proving as proving, LinkAdvances, LinkDetaches, LinkLeaves, LinkCloses, LeavesAndSends};
-ghost use Rattle.node_net.specs.Sending.{ending_of, Sends, KeepsOrLoses, out_of_memory, closed_if_written};
+ghost use Rattle.node_net.specs.Sending.{ending_of, Sends, SendsTaken, SendsWhole, KeepsOrLoses, IsBlamed, IsLimited, Rests, out_of_memory, closed_if_written};
 
 use crate::client_link::ClientLink;
 use crate::handshake::Proving;
@@ -226,7 +227,9 @@ impl<S: Stream> Connection<S> {
     }
 
     /// Its buffers are given back at this time, where one may be large, unless this is told again before.
-    pub fn rest_at(&mut self, time: u64) {
+    pub fn rest_at(&mut self, time: u64)
+        ensures { Rests self.old self.new }
+    {
         if self.moved > IDLE_BYTES || self.part > FIRST_READ {
             self.rests_at = time;
         }
@@ -428,7 +431,8 @@ impl<S: Stream> Connection<S> {
 
     /// It is closed once all that waits for it is written, and at the latest at this time.
     pub fn shut(&mut self, deadline: u64)
-        ensures { self.new.deadline ≡ min self.old.deadline deadline }
+        ensures deadline { self.new.deadline ≡ min self.old.deadline deadline }
+        ensures others { IsLimited self.old self.new }
     {
         self.limit(deadline);
         if self.ending == Ending::Open {
@@ -498,7 +502,9 @@ impl<S: Stream> Connection<S> {
 
     /// The server ends it for this cause, unless there was another before. What is to be told of a client then, with how many bytes wait for
     /// it, beside so many that are about to be written.
-    pub fn blame(&mut self, cause: Cause, taken: usize) -> Option<Event> {
+    pub fn blame(&mut self, cause: Cause, taken: usize) -> Option<Event>
+        ensures { IsBlamed self.old self.new }
+    {
         if self.cause.is_some() {
             return None;
         }
@@ -592,7 +598,9 @@ impl<S: Stream> Connection<S> {
     }
 
     /// The client at the other end, where it is one of this shard.
-    pub fn client_of(&self, shard: u64) -> Option<ConnId> {
+    pub fn client_of(&self, shard: u64) -> Option<ConnId>
+        ensures { IfSome result (IsClientOf self.now.link shard) }
+    {
         match &self.link {
             Link::Client(client) if client.shard == shard => Some(client.id()),
             _ => None,
@@ -601,7 +609,9 @@ impl<S: Stream> Connection<S> {
 
     /// A client of this shard that is shut there is closed once its last bytes are written, and at the latest at this time, whatever its
     /// stream takes. Whether it was open before.
-    pub fn shut_if_slow<H: ShardCalls>(&mut self, shard: &H, deadline: u64) -> bool {
+    pub fn shut_if_slow<H: ShardCalls>(&mut self, shard: &H, deadline: u64) -> bool
+        ensures { IsLimited self.old self.new }
+    {
         let Some(client) = self.client_of(shard.shard()) else {
             return false;
         };
@@ -619,7 +629,11 @@ impl<S: Stream> Connection<S> {
         &self,
         shard: &mut H,
         lent: &mut Vec<u8>,
-    ) -> Result<(), AllocError> {
+    ) -> Result<(), AllocError>
+        ensures { (bytes : List ℕ)
+            × (lent.new.items ≡ lent.old.items ++ bytes)
+            × Gives H.takes H.number self.now.link shard.old bytes shard.new }
+    {
         let Some(client) = self.client_of(shard.shard()) else {
             return Ok(());
         };
@@ -673,9 +687,7 @@ impl<S: Stream> Connection<S> {
 
     /// Sends what was taken for it. It is given up once it is to be closed and all is written.
     pub fn send_taken(&mut self, bytes: &[u8])
-        ensures { (sent : Connection S)
-            × Sends S.gave S.wrote self.old bytes.now sent
-            × (self.new ≡ closed_if_written sent) }
+        ensures { SendsTaken S.gave S.wrote bytes.now self.old self.new }
     {
         self.send(bytes);
         self.close_if_written();
@@ -692,8 +704,7 @@ impl<S: Stream> Connection<S> {
 
     /// Sends what was encoded, where there was memory for it.
     pub fn send_encoded(&mut self, encoded: &[u8], is_whole: bool)
-        ensures whole { OnTrue is_whole (Sends S.gave S.wrote self.old encoded.now self.new) }
-        ensures part { OnFalse is_whole (self.new ≡ out_of_memory self.old) }
+        ensures { SendsWhole S.gave S.wrote encoded.now is_whole self.old self.new }
     {
         if is_whole {
             self.send(encoded);

@@ -3,6 +3,8 @@
 //! of what waits for it. No deadline waits for a stream.
 
 ghost use Rattle.std.specs.Prelude.{◌≡◌};
+ghost use Rattle.node_net.specs.Keyed.{ChangesAt};
+ghost use Rattle.node_net.specs.Sending.{SendsWhole, Rests, IsNoted, IsBlamed, GivesUp, IsGivenUp, IsGivenUpFor};
 
 use crate::connection::{Cause, Connection, Ending};
 use crate::handshake::Proving;
@@ -277,9 +279,9 @@ impl<S: Stream> Connections<S> {
         taken.clear();
         let left = match self.table.get_mut(key) {
             None => Ok(()),
-            Some(connection) => connection.leave(rt, node, &mut taken.bytes),
+            Some(connection) => connection.leave(rt, node, &mut taken.lent),
         };
-        taken.let_go();
+        taken.let_go_of_lent();
         left
     }
 
@@ -337,7 +339,11 @@ impl<S: Stream> Connections<S> {
     }
 
     /// Sends what was encoded for a connection, where there was memory for all of it.
-    pub fn send_encoded(&mut self, key: usize, encoded: &[u8], is_whole: bool) {
+    #[tactic(auto, using(crate::proofs::KeyedLemmas::changes_none, crate::proofs::KeyedLemmas::changes_some))]
+    pub fn send_encoded(&mut self, key: usize, encoded: &[u8], is_whole: bool)
+        ensures { ChangesAt (SendsWhole S.gave S.wrote encoded.now is_whole) key self.old.table
+            self.new.table }
+    {
         if let Some(connection) = self.table.get_mut(key) {
             connection.send_encoded(encoded, is_whole);
         }
@@ -351,7 +357,10 @@ impl<S: Stream> Connections<S> {
 
     /// The server ends a connection for this cause. Of a client it is told at once, with how many bytes wait for it, beside so many that are
     /// about to be written. The first cause of a connection stays.
-    pub fn blame(&mut self, key: usize, cause: Cause, taken: usize) {
+    #[tactic(auto, using(crate::proofs::KeyedLemmas::changes_none, crate::proofs::KeyedLemmas::changes_some))]
+    pub fn blame(&mut self, key: usize, cause: Cause, taken: usize)
+        ensures { ChangesAt IsBlamed key self.old.table self.new.table }
+    {
         if let Some(connection) = self.table.get_mut(key) {
             if let Some(event) = connection.blame(cause, taken) {
                 self.events.note(event);
@@ -360,21 +369,38 @@ impl<S: Stream> Connections<S> {
     }
 
     /// The connection is closed at the end of the turn.
-    pub fn give_up(&mut self, key: usize) {
-        if let Some(connection) = self.table.get_mut(key) {
-            connection.give_up();
-        }
+    #[tactic(auto, using(crate::proofs::KeyedLemmas::changes_twice))]
+    pub fn give_up(&mut self, key: usize)
+        ensures { ChangesAt IsGivenUp key self.old.table self.new.table }
+    {
+        self.end_now(key);
         self.leave_if_gone(key);
     }
 
+    /// The same, where it is noted later.
+    #[tactic(auto, using(crate::proofs::KeyedLemmas::changes_none, crate::proofs::KeyedLemmas::changes_some))]
+    fn end_now(&mut self, key: usize)
+        ensures { ChangesAt GivesUp key self.old.table self.new.table }
+    {
+        if let Some(connection) = self.table.get_mut(key) {
+            connection.give_up();
+        }
+    }
+
     /// The connection is closed at the end of the turn, for this cause.
-    pub fn give_up_for(&mut self, key: usize, cause: Cause) {
+    #[tactic(auto, using(crate::proofs::KeyedLemmas::changes_twice))]
+    pub fn give_up_for(&mut self, key: usize, cause: Cause)
+        ensures { ChangesAt IsGivenUpFor key self.old.table self.new.table }
+    {
         self.blame(key, cause, 0);
         self.give_up(key);
     }
 
     /// Notes a connection that is to be closed at the end of the turn.
-    pub fn leave_if_gone(&mut self, key: usize) {
+    #[tactic(auto, using(crate::proofs::KeyedLemmas::changes_none, crate::proofs::KeyedLemmas::changes_some))]
+    pub fn leave_if_gone(&mut self, key: usize)
+        ensures { ChangesAt IsNoted key self.old.table self.new.table }
+    {
         if let Some(connection) = self.table.get_mut(key) {
             if connection.is_to_leave() {
                 connection.is_leaving = keep(&mut self.leaving, key);
@@ -397,7 +423,9 @@ impl<S: Stream> Connections<S> {
     }
 
     /// The connection's deadline is looked at when it comes, and whether its buffers are to be given back.
-    pub fn await_deadline(&mut self, key: usize) {
+    pub fn await_deadline(&mut self, key: usize)
+        ensures { self.new.table ≡ self.old.table }
+    {
         if let Some(connection) = self.table.get(key) {
             let next = connection.deadline().min(connection.rests_at());
             self.next_deadline = self.next_deadline.min(next);
@@ -458,7 +486,10 @@ impl<S: Stream> Connections<S> {
 
     /// The buffers of a connection are given back where nothing more is read of it or sent to it for [`IDLE`], or a little longer: so
     /// many connections rest at one time.
-    pub fn rest_later(&mut self, key: usize) {
+    #[tactic(auto, using(crate::proofs::KeyedLemmas::changes_none, crate::proofs::KeyedLemmas::changes_some))]
+    pub fn rest_later(&mut self, key: usize)
+        ensures { ChangesAt Rests key self.old.table self.new.table }
+    {
         let steps = self.now.saturating_add(IDLE).saturating_add(IDLE_STEP - 1) / IDLE_STEP;
         let time = steps.saturating_mul(IDLE_STEP);
         if let Some(connection) = self.table.get_mut(key) {

@@ -1,6 +1,8 @@
 //! A server that drains: it tells the other servers that it has no interest any more, gives them a while to hear it, and closes each client once
 //! nothing waits for it.
 
+ghost use Rattle.std.specs.Prelude.{◌≡◌};
+
 use crate::connection::{Cause, Ending};
 use crate::connections::Connections;
 use crate::limits::DRAIN_PAUSE;
@@ -80,7 +82,9 @@ impl<S: Stream> Connections<S> {
     }
 
     /// A client that was served or written to may have nothing more that waits for it.
-    pub fn note_quiet(&mut self, key: usize) {
+    pub fn note_quiet(&mut self, key: usize)
+        ensures { self.new.table ≡ self.old.table }
+    {
         if self.drains && self.quiet.push(key).is_err() {
             self.looks_at_all = true;
         }

@@ -1,16 +1,20 @@
 //! What was put for clients and other servers is taken and written.
 
-ghost use Rattle.std.specs.Prelude.{◌≡◌, ◌++◌, OnOk};
+ghost use Rattle.std.specs.Prelude.{◌≡◌, ◌⊎◌, ℕ, List, [], ◌∷◌, ◌++◌, OnOk};
 ghost use Rattle.route_frames.specs.Canonical.{frame_bytes};
 ghost use Rattle.route_values.specs.declared.frames.RouteFrame.TheVariants as route;
 ghost use Rattle.server_calls.specs.Routed.{took, taken_of, WasRouted};
-ghost use Rattle.node_net.specs.Telling.{spelling};
+ghost use Rattle.node_net.specs.Keyed.{ChangesAt, EachStays};
+ghost use Rattle.node_net.specs.Sending.{SendsTaken, IsLimited, KeepsStream};
+ghost use Rattle.node_net.specs.Taking.{all_parts, GivesAt, TakesOne, TakesSome, TakesParts, SendsPart, SendsEach, FlushesSome};
+ghost use Rattle.node_net.specs.Telling.{spelling, TellsFrames, TellsSome, TellsPeer};
 
 use crate::connection::{Cause, Ending};
 use crate::connections::Connections;
 use crate::limits::{FRAMES, PEER_BACKLOG, TAKEN_AT_ONCE};
+use crate::parts::{Parts, let_go_beyond};
 use crate::server::Server;
-use crate::taken::{Taken, let_go_beyond};
+use crate::taken::Taken;
 use net_streams::Stream;
 use route_frames::{Numbered, RouteFrame, encode};
 use server_calls::{HubCalls, ServerCalls, ShardCalls};
@@ -54,6 +58,7 @@ impl<S: Stream> Connections<S> {
     }
 
     /// Takes what waits for clients of the shard of this number, from this place on, until enough is taken. The place where it goes on.
+    #[tactic(auto, using(crate::proofs::TakingLemmas::takes_parts))]
     fn take_some<C: ServerCalls, R: Wait>(
         &mut self,
         rt: &R,
@@ -62,7 +67,10 @@ impl<S: Stream> Connections<S> {
         awaited: Awaited<'_>,
         place: usize,
         taken: &mut Taken,
-    ) -> usize {
+    ) -> usize
+        ensures { TakesParts C.Shard.takes C.Shard.number (C.lacks node) number self.old.table
+            (all_parts taken.new) self.new.table }
+    {
         taken.clear();
         match node.shard(rt, number) {
             None => awaited.count(),
@@ -71,16 +79,20 @@ impl<S: Stream> Connections<S> {
     }
 
     /// The same of a shard that is held.
+    #[tactic(auto, using(crate::proofs::TakingLemmas::takes_nothing))]
     fn take_from<H: ShardCalls>(
         &mut self,
         shard: &mut H,
         awaited: Awaited<'_>,
         place: usize,
         taken: &mut Taken,
-    ) -> usize {
+    ) -> usize
+        ensures { TakesSome H.takes H.number self.old.table shard.old (all_parts taken.old)
+            self.new.table shard.new (all_parts taken.new) }
+    {
         let count = awaited.count();
         for place in place..count {
-            if taken.bytes.len() >= TAKEN_AT_ONCE {
+            if taken.is_enough() {
                 return place;
             }
             let Some(key) = awaited.key(place) else {
@@ -96,25 +108,37 @@ impl<S: Stream> Connections<S> {
     }
 
     /// Takes what waits for a client of the shard. One that its shard has shut is closed.
+    #[tactic(auto, using(crate::proofs::TakingLemmas::takes_no_one))]
     fn take_one<H: ShardCalls>(
         &mut self,
         shard: &mut H,
         key: usize,
         taken: &mut Taken,
-    ) -> Result<(), AllocError> {
+    ) -> Result<(), AllocError>
+        ensures { TakesOne H.takes H.number key self.old.table shard.old (all_parts taken.old)
+            self.new.table shard.new (all_parts taken.new) }
+    {
         if !self.is_of_shard(key, shard.shard()) {
             return Ok(());
         }
-        taken.begin_part()?;
+        if !taken.begin_part() {
+            return Ok(());
+        }
         let is_slow = self.shut_if_slow(&*shard, key);
-        let lent = self.lend(shard, key, taken);
-        if is_slow {
-            self.blame(key, Cause::Slow, taken.lent.len());
-        }
-        if lent.is_ok() {
-            self.put_part(key, taken);
-        }
+        let lent = self.lend(shard, key, &mut taken.lent);
+        self.blame_if_slow(key, is_slow, taken.lent.len());
+        self.put_part(key, taken, lent.is_ok());
         lent
+    }
+
+    /// The server ends a client that is slow, for which so many bytes are about to be written.
+    #[tactic(auto, using(crate::proofs::TakingLemmas::each_blamed, crate::proofs::TakingLemmas::each_kept))]
+    fn blame_if_slow(&mut self, key: usize, is_slow: bool, taken: usize)
+        ensures { EachStays KeepsStream self.old.table self.new.table }
+    {
+        if is_slow {
+            self.blame(key, Cause::Slow, taken);
+        }
     }
 
     /// Whether it is the connection of a client of this shard.
@@ -126,67 +150,105 @@ impl<S: Stream> Connections<S> {
     }
 
     /// Closes a client that its shard has shut. Whether it was open before.
-    fn shut_if_slow<H: ShardCalls>(&mut self, shard: &H, key: usize) -> bool {
+    fn shut_if_slow<H: ShardCalls>(&mut self, shard: &H, key: usize) -> bool
+        ensures { ChangesAt IsLimited key self.old.table self.new.table }
+    {
         let deadline = self.last_bytes();
-        let was_open = match self.table.get_mut(key) {
-            None => false,
-            Some(connection) => connection.shut_if_slow(shard, deadline),
-        };
+        let was_open = self.shut_at(shard, key, deadline);
         self.await_deadline(key);
         was_open
     }
 
-    /// Takes what waits for a client of the shard out of its outbox.
+    /// The same, where it may stay until this time.
+    #[tactic(auto, using(crate::proofs::KeyedLemmas::changes_none, crate::proofs::KeyedLemmas::changes_some))]
+    fn shut_at<H: ShardCalls>(&mut self, shard: &H, key: usize, deadline: u64) -> bool
+        ensures { ChangesAt IsLimited key self.old.table self.new.table }
+    {
+        match self.table.get_mut(key) {
+            None => false,
+            Some(connection) => connection.shut_if_slow(shard, deadline),
+        }
+    }
+
+    /// Takes what waits for a client of the shard out of its outbox, and puts it behind what stands there.
     fn lend<H: ShardCalls>(
         &self,
         shard: &mut H,
         key: usize,
-        taken: &mut Taken,
-    ) -> Result<(), AllocError> {
+        lent: &mut Vec<u8>,
+    ) -> Result<(), AllocError>
+        ensures { (bytes : List ℕ)
+            × (lent.new.items ≡ lent.old.items ++ bytes)
+            × GivesAt H.takes H.number self.entry.now.table key shard.old bytes shard.new }
+    {
         match self.table.get(key) {
             None => Ok(()),
-            Some(connection) => connection.take_from(shard, &mut taken.lent),
+            Some(connection) => connection.take_from(shard, lent),
         }
     }
 
-    /// Puts what was taken for a client among what was taken for all, where there is something to be done for it. Where there is no memory for
-    /// that it is sent at once.
-    fn put_part(&mut self, key: usize, taken: &mut Taken) {
-        let Some(connection) = self.table.get_mut(key) else {
-            return;
-        };
-        if taken.lent.is_empty() && connection.ending() != Ending::Shut {
-            return;
+    /// Puts what was taken for a client among what was taken for all, where there is something to be done for it: it is to be closed, and
+    /// nothing more waits for it, or something was taken.
+    fn put_part(&self, key: usize, taken: &mut Taken, is_all: bool)
+        ensures { ((taken.old.lent.items ≡ []) × (all_parts taken.new ≡ all_parts taken.old))
+            ⊎ (all_parts taken.new ≡ taken.old.parts ++ (key, taken.old.lent.items) ∷ []) }
+    {
+        if !taken.lent.is_empty() || (is_all && self.is_shut(key)) {
+            taken.put_part(key);
         }
-        if !taken.put_part(key) {
-            connection.send(&taken.lent);
+    }
+
+    /// Whether the connection is closed once all that waits for it is written.
+    fn is_shut(&self, key: usize) -> bool {
+        match self.table.get(key) {
+            None => false,
+            Some(connection) => connection.ending() == Ending::Shut,
         }
-        taken.let_go_of_lent();
     }
 
     /// Writes what was taken for each client.
-    fn write_parts(&mut self, taken: &Taken) {
-        for place in 0..taken.count() {
-            self.write_part(taken, place);
+    #[tactic(auto, using(crate::proofs::TakingLemmas::sends_no_last))]
+    fn write_parts(&mut self, taken: &Taken)
+        ensures { SendsEach S.gave S.wrote self.old.table (all_parts taken.now) self.new.table }
+    {
+        self.write_all(&taken.parts);
+        if let Some(key) = taken.last {
+            self.write_part(key, &taken.lent);
+        }
+    }
+
+    /// Writes parts.
+    #[tactic(auto, using(crate::proofs::TakingLemmas::sends_all))]
+    fn write_all(&mut self, parts: &Parts)
+        ensures { SendsEach S.gave S.wrote self.old.table parts.now self.new.table }
+    {
+        for place in 0..parts.count() {
+            match parts.get(place) {
+                None => {}
+                Some((key, bytes)) => self.write_part(key, bytes),
+            }
         }
     }
 
     /// Sends a connection what was taken for it.
-    fn send_part(&mut self, key: usize, bytes: &[u8]) {
+    #[tactic(auto, using(crate::proofs::KeyedLemmas::changes_none, crate::proofs::KeyedLemmas::changes_some))]
+    fn send_part(&mut self, key: usize, bytes: &[u8])
+        ensures { ChangesAt (SendsTaken S.gave S.wrote bytes.now) key self.old.table
+            self.new.table }
+    {
         if let Some(connection) = self.table.get_mut(key) {
             connection.send_taken(bytes);
         }
     }
 
-    /// Writes the part at this place.
-    fn write_part(&mut self, taken: &Taken, place: usize) {
-        let Some(part) = taken.part(place) else {
-            return;
-        };
-        self.send_part(part.key, taken.bytes_of(part));
-        self.rest_later(part.key);
-        self.note_quiet(part.key);
-        self.leave_if_gone(part.key);
+    /// Writes the part of a connection.
+    fn write_part(&mut self, key: usize, bytes: &[u8])
+        ensures { ChangesAt (SendsPart S.gave S.wrote bytes.now) key self.old.table self.new.table }
+    {
+        self.send_part(key, bytes);
+        self.rest_later(key);
+        self.note_quiet(key);
+        self.leave_if_gone(key);
     }
 }
 
@@ -301,12 +363,28 @@ impl<S: Stream, C: ServerCalls> Server<S, C> {
             if place >= awaited.count() {
                 return;
             }
-            place = self
-                .connections
-                .take_some(rt, self.node, number, awaited, place, &mut self.taken);
-            self.connections.write_parts(&self.taken);
-            self.taken.let_go();
+            place = self.flush_some(rt, number, awaited, place);
         }
+    }
+
+    /// Takes what waits for clients of a shard, from this place among these on, until enough is taken, and writes it. The place where it
+    /// goes on.
+    fn flush_some<R: Wait>(
+        &mut self,
+        rt: &R,
+        number: u64,
+        awaited: Awaited<'_>,
+        place: usize,
+    ) -> usize
+        ensures { FlushesSome C.Shard.takes C.Shard.number (C.lacks self.old.node) S.gave S.wrote
+            number self.old.connections.table self.new.connections.table }
+    {
+        let place = self
+            .connections
+            .take_some(rt, self.node, number, awaited, place, &mut self.taken);
+        self.connections.write_parts(&self.taken);
+        self.taken.let_go();
+        place
     }
 
     /// Takes and writes what waits for other servers.
@@ -325,7 +403,11 @@ impl<S: Stream, C: ServerCalls> Server<S, C> {
 
     /// Takes and writes what waits for another server. What its stream does not take is kept, up to [`PEER_BACKLOG`]: then its route is
     /// cut. A server for whose frames there is no memory once they are taken is cut too, since it would miss them.
-    fn write_to_peer<R: Wait>(&mut self, rt: &R, peer: usize, key: usize) {
+    #[tactic(auto, using(crate::proofs::TellingLemmas::told_none, crate::proofs::TellingLemmas::told_more, crate::proofs::TellingLemmas::told_all, crate::proofs::TellingLemmas::told_full))]
+    fn write_to_peer<R: Wait>(&mut self, rt: &R, peer: usize, key: usize)
+        ensures { TellsPeer C.Hub.routed S.gave S.wrote peer key self.old.connections.table
+            self.new.connections.table }
+    {
         for _round in 0..u64::MAX {
             let Some(backlog) = self.connections.backlog(key) else {
                 return;
@@ -341,7 +423,10 @@ impl<S: Stream, C: ServerCalls> Server<S, C> {
     }
 
     /// Takes and writes at most so many frames that wait for another server. Whether there were some.
-    fn write_some<R: Wait>(&mut self, rt: &R, peer: usize, key: usize, count: usize) -> bool {
+    fn write_some<R: Wait>(&mut self, rt: &R, peer: usize, key: usize, count: usize) -> bool
+        ensures { TellsSome C.Hub.routed S.gave S.wrote peer count key self.old.connections.table
+            self.new.connections.table }
+    {
         match take_frames(rt, self.node, self.alloc, peer, count) {
             Ok(frames) => self.write_taken(key, frames),
             Err(_) => {
@@ -353,7 +438,11 @@ impl<S: Stream, C: ServerCalls> Server<S, C> {
     }
 
     /// Writes frames that were taken for another server. Whether there were some.
-    fn write_taken(&mut self, key: usize, frames: Vec<Numbered>) -> bool {
+    #[tactic(auto, using(crate::proofs::TellingLemmas::tells_frames))]
+    fn write_taken(&mut self, key: usize, frames: Vec<Numbered>) -> bool
+        ensures { TellsFrames S.gave S.wrote key frames.items self.old.connections.table
+            self.new.connections.table }
+    {
         if frames.is_empty() {
             return false;
         }

@@ -14,7 +14,7 @@
 //! route begins with where the mesh has a secret, and `proving` is what the server does of it; `connection` has one of them with its stream; `laws`
 //! says that what is sent to it keeps its order, and that the turns of a client are runs of its life; `connections` has all of them, and what is
 //! noted of each until it is done; `server` takes them and lets them go, and finds those of clients (`clients`) and of other servers (`peers`);
-//! `turning` and `flushing` are a turn of its loop, by what was `taken` for clients, `draining` is what a server that drains does, and `running` is
+//! `turning` and `flushing` are a turn of its loop, by what was `taken` for clients, in `parts`, `draining` is what a server that drains does, and `running` is
 //! the loop, which reaches other servers at their `addresses`, and is told by operators over a `control` socket. `shutdown` says when the loop ends,
 //! and which server drains, the `limits` when and how much of everything, and `faults` why no stream is taken.
 #![tactic(auto)]
@@ -31,6 +31,7 @@ mod flushing;
 mod handshake;
 mod laws;
 mod limits;
+mod parts;
 mod peers;
 mod placing;
 mod proving;

@@ -1,32 +1,22 @@
 //! What was taken for clients and is about to be written.
 
-use crate::limits::{BUSY_BYTES, KEPT_BYTES};
-use crate::placing::put;
-use std::alloc::{AllocError, Global};
+ghost use Rattle.std.specs.Prelude.{◌≡◌, ◌++◌, ◌∷◌, [], None};
+ghost use Rattle.std.specs.Bool.{OnTrue, OnFalse};
+ghost use Rattle.node_net.specs.Taking.{all_parts};
 
-/// What was taken for one connection: these of all bytes that were taken.
-#[derive(Clone, Copy)]
-pub(crate) struct Part {
-    pub key: usize,
-    start: usize,
-    end: usize,
-}
-
-/// Lets a buffer with more than so many bytes of room go.
-pub(crate) fn let_go_beyond(alloc: Global, buffer: &mut Vec<u8>, room: usize) {
-    if buffer.capacity() > room {
-        put(buffer, Vec::new(alloc));
-    }
-}
+use crate::limits::{BUSY_BYTES, KEPT_BYTES, TAKEN_AT_ONCE};
+use crate::parts::{Parts, let_go_beyond};
+use std::alloc::Global;
 
 /// What was taken for clients, and for whom.
 #[derive(Drop)]
 pub(crate) struct Taken {
     alloc: Global,
-    pub bytes: Vec<u8>,
-    parts: Vec<Part>,
+    pub parts: Parts,
     /// What was taken for one client, before it stands among what was taken for all.
     pub lent: Vec<u8>,
+    /// The connection that this is for, where there was no memory to put it there: it stands behind the others then.
+    pub last: Option<usize>,
 }
 
 impl Taken {
@@ -34,71 +24,72 @@ impl Taken {
     pub fn new(alloc: Global) -> Taken {
         Taken {
             alloc,
-            bytes: Vec::new(alloc),
-            parts: Vec::new(alloc),
+            parts: Parts::new(alloc),
             lent: Vec::new(alloc),
+            last: None,
         }
     }
 
     /// Nothing is taken any more.
-    pub fn clear(&mut self) {
-        self.bytes.clear();
+    pub fn clear(&mut self)
+        ensures { all_parts self.new ≡ [] }
+    {
         self.parts.clear();
-    }
-
-    /// Makes room for one part more, of which nothing is lent yet.
-    pub fn begin_part(&mut self) -> Result<(), AllocError> {
         self.lent.clear();
-        self.parts.reserve(1)
+        self.last = None;
     }
 
-    /// Puts what is lent behind what was taken for others. Whether there was memory for that.
-    fn join(&mut self) -> bool {
-        if self.bytes.is_empty() {
-            std::mem::swap(&mut self.bytes, &mut self.lent);
-            return true;
+    /// Whether no more is to be taken before this is written.
+    pub fn is_enough(&self) -> bool {
+        self.last.is_some() || self.parts.len() >= TAKEN_AT_ONCE
+    }
+
+    /// Begins one part more, of which nothing is lent yet. False where none can stand behind the last one.
+    pub fn begin_part(&mut self) -> bool
+        ensures begun { OnTrue result ((self.new.parts ≡ all_parts self.old)
+            × (self.new.lent.items ≡ []) × (self.new.last ≡ None)) }
+        ensures full { OnFalse result (self.new ≡ self.old) }
+    {
+        if self.last.is_some() {
+            return false;
         }
-        self.bytes.extend_from_slice(&self.lent).is_ok()
+        self.lent.clear();
+        true
     }
 
-    /// Puts what is lent behind what was taken for others, as the part of this connection. Whether there was memory for that: else the part
-    /// is empty.
-    pub fn put_part(&mut self, key: usize) -> bool {
-        let start = self.bytes.len();
-        let is_put = self.join();
-        let end = self.bytes.len();
-        let _ = self.parts.push(Part { key, start, end });
-        is_put
+    /// Puts what is lent behind what was taken for others, as the part of this connection.
+    pub fn put_part(&mut self, key: usize)
+        ensures { all_parts self.new ≡ self.old.parts ++ (key, self.old.lent.items) ∷ [] }
+    {
+        if self.parts.put(key, &mut self.lent) {
+            self.last = None;
+            self.let_go_of_lent();
+        } else {
+            self.last = Some(key);
+        }
     }
 
     /// Nothing is lent any more: a buffer for more than large messages does not stay.
-    pub fn let_go_of_lent(&mut self) {
+    pub fn let_go_of_lent(&mut self)
+        ensures { self.new ≡ record self.old { lent = self.new.lent } }
+    {
         let_go_beyond(self.alloc, &mut self.lent, BUSY_BYTES);
-    }
-
-    /// How many parts there are.
-    pub fn count(&self) -> usize {
-        self.parts.len()
-    }
-
-    /// The part at this place.
-    pub fn part(&self, place: usize) -> Option<Part> {
-        self.parts.get(place).copied()
-    }
-
-    /// The bytes of a part.
-    pub fn bytes_of(&self, part: Part) -> &[u8] {
-        self.bytes.get(part.start..part.end).unwrap_or(&[])
     }
 
     /// What was taken is sent: a buffer for more than large messages does not stay.
     pub fn let_go(&mut self) {
-        let_go_beyond(self.alloc, &mut self.bytes, BUSY_BYTES);
+        self.let_go_beyond(BUSY_BYTES);
     }
 
     /// Connections rest: no large buffer stays.
     pub fn rest(&mut self) {
-        let_go_beyond(self.alloc, &mut self.lent, KEPT_BYTES);
-        let_go_beyond(self.alloc, &mut self.bytes, KEPT_BYTES);
+        self.let_go_beyond(KEPT_BYTES);
+    }
+
+    /// Nothing is taken any more: a buffer with more than so many bytes of room does not stay.
+    fn let_go_beyond(&mut self, room: usize) {
+        self.clear();
+        self.parts.let_go_beyond(room);
+        let_go_beyond(self.alloc, &mut self.lent, room);
     }
 }

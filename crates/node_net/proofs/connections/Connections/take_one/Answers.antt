@@ -1,0 +1,22 @@
+use Rattle.std.proofs.Common.{sym, subst}
+use Rattle.node_net.specs.Taking.{all_parts, TakesOne}
+use Rattle.node_net.proofs.TakingLemmas.{takes_one, takes_no_one}
+use Rattle.node_net.proofs.connections.Connections.take_one.Goals as goal
+
+pub returns-then-not-begin_part : goal.returns-then-not-begin_part
+returns-then-not-begin_part g c =
+    subst
+    (λ t. TakesOne g.H.ShardCalls.takes g.H.ShardCalls.number c.args.key c.args.self.now.table c.args.shard.now
+    (all_parts c.args.taken.now) c.args.self.now.table c.args.shard.now (all_parts t))
+    (sym c.if-not-begin_part.ensures.full)
+    (takes_no_one g.H.ShardCalls.takes g.H.ShardCalls.number c.args.key c.args.self.now.table c.args.shard.now
+    (all_parts c.args.taken.now))
+
+pub returns : goal.returns
+returns g c =
+    takes_one g.H.ShardCalls.takes g.H.ShardCalls.number c.args.key c.args.self.now.table
+    c.shut_if_slow-is_slow.new.self.table c.blame_if_slow.new.self.table c.args.shard.now c.lend-lent.new.shard
+    (all_parts c.args.taken.now) c.begin_part.new.self.parts (all_parts c.put_part.new.taken)
+    c.begin_part.new.self.lent.items c.lend-lent.new.lent.items c.begin_part.new.self.last
+    c.shut_if_slow-is_slow.ensures c.blame_if_slow.ensures c.if-not-begin_part.ensures.begun.0
+    c.if-not-begin_part.ensures.begun.1 c.if-not-begin_part.ensures.begun.2 c.lend-lent.ensures c.put_part.ensures
