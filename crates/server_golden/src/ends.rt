@@ -259,11 +259,12 @@ impl<C: ServerCalls> End<C> {
 
     /// Sets what the server goes by: its time, its next word, what came of a connection, or that it drains. Whether there is such a call.
     fn set(&mut self, call: &str, number: u64) -> bool {
+        let key = self.key(number);
         match call {
             "time" => self.server.set_time(number),
             "word" => self.server.set_word(word_from(number)),
-            "await_stream" => self.server.await_stream(self.key(number)),
-            "connected" => self.server.connected(self.key(number)),
+            "await_stream" => self.server.await_stream(key),
+            "connected" => self.server.connected(key),
             "drain" => self.server.drain(number),
             _ => return false,
         }
@@ -273,8 +274,8 @@ impl<C: ServerCalls> End<C> {
     /// A turn in which the connections of these numbers are ready.
     fn turn<R: Wait>(&mut self, rt: &R, words: &Words<'_>) {
         let (first, second) = (self.key(words.number(0)), self.key(words.number(1)));
-        self.server
-            .turn(rt, &[first, second, self.key(words.number(2))]);
+        let third = self.key(words.number(2));
+        self.server.turn(rt, &[first, second, third]);
     }
 
     /// A client comes who has sent these bytes.
