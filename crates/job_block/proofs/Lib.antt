@@ -1,0 +1,3 @@
+mod Bodies
+mod Texts
+mod Places
