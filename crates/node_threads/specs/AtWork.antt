@@ -11,8 +11,8 @@ use Rattle.shard_core.specs.Shards.{State, new_shard}
 use Rattle.node_threads.specs.Steps.{Done, Leads, jobs_of, claims_of}
 use Rattle.node_law.specs.Sound.{tried_of}
 
--- the shard; what its seat at the race knows; the jobs that it popped from its lane, in order; and the last one of these,
--- where it is not begun yet
+-- the shard; what its seat at the race knows; the jobs that it popped from its lane, in order; and
+-- the last one of these, where it is not begun yet
 pub record AtWork : Type 0 where
   pub state : State
   pub part : ShardPart
@@ -21,15 +21,26 @@ pub record AtWork : Type 0 where
 
 -- the same of its fields; the job in hand of the lane waits, or does not
 abbrev pub seen_as : State → ShardPart → List Job → Option Job → Bool → AtWork
-seen_as state part popped hand waits = record { state = state; part = part; popped = popped; waiting = cond waits hand None }
+seen_as state part popped hand waits = record {
+  state = state;
+  part = part;
+  popped = popped;
+  waiting = cond waits hand None;
+}
 
 -- a shard of this number, of so many, that has done nothing
 abbrev pub at_start : ℕ → ℕ → AtWork
-at_start shard shards = record { state = new_shard shard shards; part = newcomer shard; popped = []; waiting = None }
+at_start shard shards = record {
+  state = new_shard shard shards;
+  part = newcomer shard;
+  popped = [];
+  waiting = None;
+}
 
 -- ---- what it does
 
--- By these steps. What it begins or drops is what it popped, in order; and its seat wins and loses just what the steps say.
+-- By these steps. What it begins or drops is what it popped, in order; and its seat wins and loses
+-- just what the steps say.
 pub record Makes (old : AtWork) (steps : List Done) (new : AtWork) : Type 0 where
   pub got : List Job
   pub led : Leads old.state steps new.state
@@ -49,7 +60,8 @@ pub record Does (old : AtWork) (event : Event) (answer : Answer) (new : AtWork) 
   pub after : new ≡ record old { state = shard_after old.state event }
 
 -- the step of a take that gives these entries, whose bytes stand behind those that were there
-pub record TakesBytes (old : AtWork) (conn count taken : ℕ) (before bytes : List ℕ) (new : AtWork) : Type 0 where
+pub record TakesBytes (old : AtWork) (conn count taken : ℕ) (before bytes : List ℕ) (new : AtWork) :
+    Type 0 where
   pub entries : List Written
   pub does : Does old (Take conn count) (Taken entries) new
   pub told : taken ≡ length entries
@@ -61,7 +73,8 @@ abbrev pub one_if : Option Job → ℕ
 one_if None = 0
 one_if (Some job) = 1
 
--- its turn in the race is that of the job in hand, and is seen; and the indices tried are of its queue names
+-- its turn in the race is that of the job in hand, and is seen; and the indices tried are of its
+-- queue names
 pub record IsInTurn (finished next_index : ℕ) (part : ShardPart) (job : Job) : Type 0 where
   pub turn : job.turn ≡ finished + 1
   pub seen : HasTurn part
@@ -76,7 +89,9 @@ pub record IsAtWork (shards next_index : ℕ) (w : AtWork) : Type 0 where
   pub index : next_index ≡ w.state.next_index
   pub finished : w.part.finished ≡ w.state.finished
   pub next : w.part.next ≤ tried_of w.state.hand w.state.next_index
-  pub hand : (job : Job) → w.state.hand ≡ Some job → IsInTurn w.state.finished w.state.next_index w.part job
+  pub hand : (job : Job)
+      → w.state.hand ≡ Some job
+      → IsInTurn w.state.finished w.state.next_index w.part job
   pub waits : (job : Job) → w.waiting ≡ Some job → IsNext w.state.finished w.state.hand job
   pub count : length w.popped ≡ w.state.finished + one_if w.state.hand + one_if w.waiting
   pub done : HasDone shards w

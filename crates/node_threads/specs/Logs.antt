@@ -22,12 +22,13 @@ pub record HasNoJob (s : State) (event : Event) (why : ShardFault) : Type 0 wher
 abbrev pub Refuses : State → Event → ShardFault → Type 0
 Refuses s event why = (shard_refusal s event ≡ Some why) ⊎ HasNoJob s event why
 
--- Each step is the shard's, the first of them from this state, and they lead to that one. What it refused, it refused in the state
--- between the steps, which that left as it was.
+-- Each step is the shard's, the first of them from this state, and they lead to that one. What it
+-- refused, it refused in the state between the steps, which that left as it was.
 abbrev pub Logs : State → List Made → State → Type 0
 Logs from [] to = to ≡ from
 Logs from (Did d ∷ earlier) to = IsDone d.before d.event d.answer to × Logs from earlier d.before
-Logs from (WasRefused before event why ∷ earlier) to = Refuses before event why × (to ≡ before) × Logs from earlier before
+Logs from (WasRefused before event why ∷ earlier) to =
+    Refuses before event why × (to ≡ before) × Logs from earlier before
 
 -- the steps alone
 abbrev pub steps_in : List Made → List Done

@@ -4,7 +4,15 @@ use Rattle.atomic_table.specs.Seated.{TableId}
 use Rattle.claim_cells.specs.Seats.{RaceId}
 
 abbrev pub no_table : TableId
-no_table = record { words = 0; slots = 0; views_name = 0; atom = 0; block = 0; offset = 0; slot_names = [] }
+no_table = record {
+  words = 0;
+  slots = 0;
+  views_name = 0;
+  atom = 0;
+  block = 0;
+  offset = 0;
+  slot_names = [];
+}
 
 abbrev pub no_race : RaceId
 no_race = record { table = no_table; shards = 0 }

@@ -3,7 +3,8 @@ use Rattle.std.specs.Prelude.{◌≡◌, ◌<◌, ℕ, Bool, true, false, List, 
 use Rattle.subj.specs.declared.jobs.Job.{Job}
 use Rattle.job_lane.specs.Turns.{AreNumbered}
 
--- the hub's end of a lane: of which shard, counted from 1; what was pushed to the lane; and whether that has the run that is handed out
+-- the hub's end of a lane: of which shard, counted from 1; what was pushed to the lane; and whether
+-- that has the run that is handed out
 pub record LaneSender : Type 0 where
   pub shard : ℕ
   pub pushed : List Job
@@ -29,7 +30,8 @@ pub record Outlet : Type 0 where
   pub jobs : List Job
   pub room : ℕ
 
-pub record IsOutlet (run : Option (List Job)) (unsent : List Job) (lines : List LaneSender) : Type 0 where
+pub record IsOutlet (run : Option (List Job)) (unsent : List Job) (lines : List LaneSender) :
+    Type 0 where
   pub some : 0 < length lines
   pub alike : All (λ line. jobs_handed_to run unsent line ≡ jobs_handed run unsent lines) lines
   pub numbered : AreNumbered (jobs_handed run unsent lines)

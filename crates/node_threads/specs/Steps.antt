@@ -40,7 +40,8 @@ abbrev pub jobs_of : List Done → List Job
 jobs_of [] = []
 jobs_of (d ∷ earlier) = jobs_of earlier ++ job_in d.event
 
--- ---- the pairs of a turn and an index that were claimed with a candidate, in order: those won, and those lost
+-- ---- the pairs of a turn and an index that were claimed with a candidate, in order: those won,
+-- and those lost
 
 abbrev pub pair_of : ℕ → ℕ → Option Subscription → List (ℕ × ℕ)
 pair_of turn index None = []
@@ -56,7 +57,10 @@ claimed_in s (Shut conn text) as_won = []
 claimed_in s (Detach conn) as_won = []
 claimed_in s (Take conn count) as_won = []
 claimed_in s (Begin job) as_won = []
-claimed_in s (Claim index won) as_won = if (if as_won then won else not won) then pair_of (s.finished + 1) index (candidate_of s s.hand index) else []
+claimed_in s (Claim index won) as_won =
+    if (if as_won then won else not won)
+    then pair_of (s.finished + 1) index (candidate_of s s.hand index)
+    else []
 claimed_in s End as_won = []
 claimed_in s (DropJob waiting) as_won = []
 claimed_in s Drain as_won = []

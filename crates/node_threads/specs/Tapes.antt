@@ -79,11 +79,14 @@ end_entry = entry event.End told.Work
 abbrev pub drop_entry : Option Job → Option Job → ShardEntry
 drop_entry waiting job = entry (event.DropJob waiting) (told.Dropped (turn_of job))
 
--- the parts of a turn are written without an answer, since the event says all that was not known before
+-- the parts of a turn are written without an answer, since the event says all that was not known
+-- before
 abbrev pub entry_of : of_shard.Event → of_shard.Answer → ShardEntry
 entry_of of_shard.Attach answer = entry event.Attach (told_of answer)
-entry_of (of_shard.Subscribe conn key sid) answer = entry (event.Subscribe conn key sid) (told_of answer)
-entry_of (of_shard.Unsubscribe conn sid max) answer = entry (event.Unsubscribe conn sid max) (told_of answer)
+entry_of (of_shard.Subscribe conn key sid) answer =
+    entry (event.Subscribe conn key sid) (told_of answer)
+entry_of (of_shard.Unsubscribe conn sid max) answer =
+    entry (event.Unsubscribe conn sid max) (told_of answer)
 entry_of (of_shard.Reply conn frame) answer = entry (event.Reply conn frame) (told_of answer)
 entry_of (of_shard.SetHeaders conn on) answer = entry (event.SetHeaders conn on) (told_of answer)
 entry_of (of_shard.Shut conn text) answer = entry (event.Shut conn text) (told_of answer)
@@ -100,16 +103,20 @@ entry_of of_shard.Collect answer = entry (event.Collect (deltas_in answer)) told
 abbrev pub refused_entry : of_shard.Event → ShardFault → ShardEntry
 refused_entry event why = entry (entry_of event (of_shard.Collected [])).event (told.Refused why)
 
--- of all that was done and refused, the newest of which stands first in the list, and last on the tape
+-- of all that was done and refused, the newest of which stands first in the list, and last on the
+-- tape
 abbrev pub entries_of : List Made → List ShardEntry
 entries_of [] = []
 entries_of (Did d ∷ earlier) = entries_of earlier ++ entry_of d.event d.answer ∷ []
-entries_of (WasRefused before event why ∷ earlier) = entries_of earlier ++ refused_entry event why ∷ []
+entries_of (WasRefused before event why ∷ earlier) =
+    entries_of earlier ++ refused_entry event why ∷ []
 
 -- ---- a shard at work, and its tape
 
--- the shard makes some steps and refuses what it must between them, and just this is added to its tape
-pub record Tells (old : AtWork) (tape : Option (List ShardEntry)) (new : AtWork) (more : Option (List ShardEntry)) : Type 0 where
+-- the shard makes some steps and refuses what it must between them, and just this is added to its
+-- tape
+pub record Tells (old : AtWork) (tape : Option (List ShardEntry)) (new : AtWork)
+    (more : Option (List ShardEntry)) : Type 0 where
   pub log : List Made
   pub makes : Makes old (steps_in log) new
   pub logs : Logs old.state log new.state

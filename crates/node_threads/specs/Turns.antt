@@ -101,7 +101,8 @@ Drops old (Err OutOfMemory) new = Makes old [] new
 abbrev pub MayBegin : AtWork → Type 0
 MayBegin w = w.state.hand ≡ None → (is_some w.waiting ≡ true) × HasTurn w.part
 
--- so many of these jobs, from the first on, were delivered at once; where none was, the shard is as it was
+-- so many of these jobs, from the first on, were delivered at once; where none was, the shard is as
+-- it was
 pub record DeliversFirst (jobs : List Job) (count : ℕ) (old new : State) : Type 0 where
   pub few : count ≤ length jobs
   pub none : count ≡ 0 → new ≡ old

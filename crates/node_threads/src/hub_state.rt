@@ -104,7 +104,9 @@ impl<N: NodeName> LaneSender<N> {
     #[tactic(auto, using(crate::proofs::Lanes::Outlets::owed_behind, crate::proofs::Lanes::Outlets::pushed_now))]
     fn offer<R: Wait>(&mut self, rt: &R, run: &Run)
         requires { AreNumbered (self.old.pushed ++ jobs_owed self.old.taken (Some run.now)) }
-        ensures { (self.new.shard ≡ self.old.shard) × (self.new.pushed ++ jobs_owed self.new.taken (Some run.now) ≡ self.old.pushed ++ jobs_owed self.old.taken (Some run.now)) }
+        ensures { (self.new.shard ≡ self.old.shard)
+            × (self.new.pushed ++ jobs_owed self.new.taken (Some run.now)
+            ≡ self.old.pushed ++ jobs_owed self.old.taken (Some run.now)) }
     {
         if self.taken {
             return;
@@ -138,7 +140,10 @@ impl<N: NodeName> Model for Outlet<N> {
 
     ghost Value = { Outlet };
 
-    ghost view = { λ s. record { jobs = jobs_handed s.run s.unsent.items s.lines.items; room = vec_capacity s.unsent - vec_len s.unsent } };
+    ghost view = { λ s. record {
+      jobs = jobs_handed s.run s.unsent.items s.lines.items;
+      room = vec_capacity s.unsent - vec_len s.unsent;
+    } };
 
     ghost invariant = { λ s. IsOutlet s.run s.unsent.items s.lines.items };
 }
@@ -152,8 +157,10 @@ fn all_have<N: NodeName>(lines: &[LaneSender<N>]) -> bool
 
 /// Pushes the run to each lane that does not have it.
 fn offer_to_each<N: NodeName, R: Wait>(rt: &R, lines: &mut [LaneSender<N>], run: &Run)
-    requires { All (λ line. AreNumbered (line.pushed ++ jobs_owed line.taken (Some run.now))) lines.old }
-    ensures { map (λ line. line.pushed ++ jobs_owed line.taken (Some run.now)) lines.new ≡ map (λ line. line.pushed ++ jobs_owed line.taken (Some run.now)) lines.old }
+    requires { All (λ line. AreNumbered (line.pushed ++ jobs_owed line.taken (Some run.now)))
+        lines.old }
+    ensures { map (λ line. line.pushed ++ jobs_owed line.taken (Some run.now)) lines.new
+        ≡ map (λ line. line.pushed ++ jobs_owed line.taken (Some run.now)) lines.old }
 {
     for line in lines.iter_mut() {
         line.offer(rt, run);
@@ -162,7 +169,8 @@ fn offer_to_each<N: NodeName, R: Wait>(rt: &R, lines: &mut [LaneSender<N>], run:
 
 /// Another run is handed out, that no lane has.
 fn begin_each<N: NodeName>(lines: &mut [LaneSender<N>])
-    ensures { (map (λ line. line.pushed) lines.new ≡ map (λ line. line.pushed) lines.old) × All (λ line. line.taken ≡ false) lines.new }
+    ensures { (map (λ line. line.pushed) lines.new ≡ map (λ line. line.pushed) lines.old)
+        × All (λ line. line.taken ≡ false) lines.new }
 {
     for line in lines.iter_mut() {
         line.begin();
@@ -171,15 +179,19 @@ fn begin_each<N: NodeName>(lines: &mut [LaneSender<N>])
 
 /// Pushes the run to each lane that does not have it.
 fn offer_all<N: NodeName, R: Wait>(rt: &R, lines: &mut Vec<LaneSender<N>>, run: &Run)
-    requires { All (λ line. AreNumbered (line.pushed ++ jobs_owed line.taken (Some run.now))) lines.old.items }
-    ensures { map (λ line. line.pushed ++ jobs_owed line.taken (Some run.now)) lines.new.items ≡ map (λ line. line.pushed ++ jobs_owed line.taken (Some run.now)) lines.old.items }
+    requires { All (λ line. AreNumbered (line.pushed ++ jobs_owed line.taken (Some run.now)))
+        lines.old.items }
+    ensures { map (λ line. line.pushed ++ jobs_owed line.taken (Some run.now)) lines.new.items
+        ≡ map (λ line. line.pushed ++ jobs_owed line.taken (Some run.now)) lines.old.items }
 {
     offer_to_each(rt, lines.as_mut_slice(), run);
 }
 
 /// Another run is handed out, that no lane has.
 fn begin_all<N: NodeName>(lines: &mut Vec<LaneSender<N>>)
-    ensures { (map (λ line. line.pushed) lines.new.items ≡ map (λ line. line.pushed) lines.old.items) × All (λ line. line.taken ≡ false) lines.new.items }
+    ensures { (map (λ line. line.pushed) lines.new.items
+        ≡ map (λ line. line.pushed) lines.old.items)
+        × All (λ line. line.taken ≡ false) lines.new.items }
 {
     begin_each(lines.as_mut_slice());
 }
@@ -291,7 +303,9 @@ impl<N: NodeName> Model for HubState<N> {
 
     ghost view = { λ s. hub_at s.side s.seat.part s.finished s.outlet.jobs };
 
-    ghost invariant = { λ s. IsAtHub N.race.shards (hub_at s.side s.seat.part s.finished s.outlet.jobs) × (s.seat.race ≡ N.race) };
+    ghost invariant = { λ s.
+        IsAtHub N.race.shards (hub_at s.side s.seat.part s.finished s.outlet.jobs)
+        × (s.seat.race ≡ N.race) };
 }
 
 /// Whether it was refused since a shard is a window behind.
@@ -350,7 +364,8 @@ impl<N: NodeName> HubState<N> {
     fn look(&mut self, cells: &Cells)
         requires race { cells.now ≡ N.race }
         ensures loads { IsLooked N.race.shards self.old.part self.new.finished self.new.part }
-        ensures rest { self.new ≡ record self.old { part = self.new.part; finished = self.new.finished } }
+        ensures rest { self.new
+            ≡ record self.old { part = self.new.part; finished = self.new.finished } }
     {
         self.finished = cells.look(&mut self.seat);
     }
@@ -365,8 +380,15 @@ impl<N: NodeName> HubState<N> {
     ) -> Result<PublishPlan, Failure<HubFault>>
         requires race { cells.now ≡ N.race }
         ensures looks { Looks N.race.shards self.old self.new }
-        ensures planned { IsAnswered (publish_refusal self.new.side.server self.new.side.hub (publication_by conn publication.now word) self.new.finished) (λ plan. IsPlanOf self.new.side.server self.new.side.hub (publication_by conn publication.now word) plan.job plan.frames.items) ⊤ result }
-        ensures fresh { refuses_busy result ≡ true → IsLooked N.race.shards self.old.part self.new.finished self.new.part }
+        ensures planned { IsAnswered
+            (publish_refusal self.new.side.server self.new.side.hub
+            (publication_by conn publication.now word) self.new.finished)
+            (λ plan.
+            IsPlanOf self.new.side.server self.new.side.hub
+            (publication_by conn publication.now word) plan.job plan.frames.items)
+            ⊤ result }
+        ensures fresh { refuses_busy result ≡ true
+            → IsLooked N.race.shards self.old.part self.new.finished self.new.part }
     {
         let planned = self
             .side
@@ -394,7 +416,8 @@ impl<N: NodeName> HubState<N> {
         word: u64,
     ) -> Result<Issued, Failure<HubFault>>
         requires { cells.now ≡ N.race }
-        ensures { Publishes N.race.shards self.old (publication_by conn publication.now word) result self.new }
+        ensures { Publishes N.race.shards self.old (publication_by conn publication.now word) result
+            self.new }
     {
         let PublishPlan { job, frames } = self.plan_publish(cells, conn, publication, word)?;
         let Ok(()) = self.outlet.reserve() else {
@@ -422,8 +445,11 @@ impl<N: NodeName> HubState<N> {
     ) -> Result<Option<Job>, Failure<HubFault>>
         requires race { cells.now ≡ N.race }
         ensures looks { Looks N.race.shards self.old self.new }
-        ensures planned { IsAnswered (receive_refusal self.new.side.server self.new.side.hub self.new.finished frame.now) (λ job. job ≡ job_of self.new.side.hub frame.now frame.now.body) ⊤ result }
-        ensures fresh { refuses_busy result ≡ true → IsLooked N.race.shards self.old.part self.new.finished self.new.part }
+        ensures planned { IsAnswered
+            (receive_refusal self.new.side.server self.new.side.hub self.new.finished frame.now)
+            (λ job. job ≡ job_of self.new.side.hub frame.now frame.now.body) ⊤ result }
+        ensures fresh { refuses_busy result ≡ true
+            → IsLooked N.race.shards self.old.part self.new.finished self.new.part }
     {
         let planned = self.side.plan_receive(frame, &self.finished);
         if !is_busy(&planned) {
@@ -460,7 +486,12 @@ impl<N: NodeName> HubState<N> {
     /// Applies news of a peer.
     fn apply_update(&mut self, frame: &Numbered) -> Result<(), Failure<HubFault>>
         requires { has_message frame.now.body ≡ false }
-        ensures { IsAnswered (receive_refusal self.old.side.server self.old.side.hub self.old.finished frame.now) (λ _. Does self.old (ByHub (Receive frame.now self.old.finished)) (OfHub (WasHeard frame.now.number)) self.new) (self.new ≡ self.old) result }
+        ensures { IsAnswered
+            (receive_refusal self.old.side.server self.old.side.hub self.old.finished frame.now)
+            (λ _.
+            Does self.old (ByHub (Receive frame.now self.old.finished))
+            (OfHub (WasHeard frame.now.number)) self.new)
+            (self.new ≡ self.old) result }
     {
         self.side.apply_update(frame, &self.finished)
     }
@@ -495,14 +526,21 @@ impl<N: NodeName> HubState<N> {
 
     /// [`Sessions::dial`](route_session::Sessions::dial).
     pub fn dial(&mut self, peer: usize) -> Result<SessionId, Failure<SessionFault>>
-        ensures { IsAnswered (session_refusal self.old.side.server self.old.side.sessions (Dial peer)) (λ session. Does self.old (BySessions (Dial peer)) (OfSessions (Dialed session)) self.new) (self.new ≡ self.old) result }
+        ensures { IsAnswered
+            (session_refusal self.old.side.server self.old.side.sessions (Dial peer))
+            (λ session.
+            Does self.old (BySessions (Dial peer)) (OfSessions (Dialed session)) self.new)
+            (self.new ≡ self.old) result }
     {
         self.side.dial(peer)
     }
 
     /// [`Sessions::accept`](route_session::Sessions::accept).
     pub fn accept(&mut self) -> Result<(SessionId, RouteInfo), Failure<SessionFault>>
-        ensures { IsAnswered (session_refusal self.old.side.server self.old.side.sessions Accept) (λ given. Does self.old (BySessions Accept) (OfSessions (Accepted given.0 given.1)) self.new) (self.new ≡ self.old) result }
+        ensures { IsAnswered (session_refusal self.old.side.server self.old.side.sessions Accept)
+            (λ given.
+            Does self.old (BySessions Accept) (OfSessions (Accepted given.0 given.1)) self.new)
+            (self.new ≡ self.old) result }
     {
         self.side.accept()
     }
@@ -510,7 +548,10 @@ impl<N: NodeName> HubState<N> {
     /// [`Sessions::cut`](route_session::Sessions::cut); where the session was kept, its peer is not up any
     /// more. Takes no memory.
     pub fn cut(&mut self, session: SessionId) -> Result<Option<usize>, SessionFault>
-        ensures { IsDecided (session_refusal self.old.side.server self.old.side.sessions (Cut session)) (λ peer. Does self.old (BySessions (Cut session)) (OfSessions (WasCut peer)) self.new) (self.new ≡ self.old) result }
+        ensures { IsDecided
+            (session_refusal self.old.side.server self.old.side.sessions (Cut session))
+            (λ peer. Does self.old (BySessions (Cut session)) (OfSessions (WasCut peer)) self.new)
+            (self.new ≡ self.old) result }
     {
         self.side.cut(session)
     }
@@ -522,7 +563,12 @@ impl<N: NodeName> HubState<N> {
         session: SessionId,
         info: &RouteInfo,
     ) -> Result<(Kept, RouteConnect), Failure<SessionFault>>
-        ensures { let e = OnInfo session info.now (seen_name self.old.side info.now.server_name) in IsAnswered (session_refusal self.old.side.server self.old.side.sessions e) (λ done. Does self.old (BySessions e) (OfSessions (KeptAfterInfo done.0.instead_of done.1)) self.new) (self.new ≡ self.old) result }
+        ensures { let e = OnInfo session info.now (seen_name self.old.side info.now.server_name) in
+            IsAnswered (session_refusal self.old.side.server self.old.side.sessions e)
+            (λ done.
+            Does self.old (BySessions e) (OfSessions (KeptAfterInfo done.0.instead_of done.1))
+            self.new)
+            (self.new ≡ self.old) result }
     {
         self.side.info(session, info)
     }
@@ -535,7 +581,11 @@ impl<N: NodeName> HubState<N> {
         session: SessionId,
         connect: &RouteConnect,
     ) -> Result<Kept, Failure<SessionFault>>
-        ensures { let e = OnConnect session connect.now (seen_name self.old.side connect.now.server_name) in IsAnswered (session_refusal self.old.side.server self.old.side.sessions e) (λ kept. Does self.old (BySessions e) (OfSessions (WasKept kept.instead_of)) self.new) (self.new ≡ self.old) result }
+        ensures { let e =
+            OnConnect session connect.now (seen_name self.old.side connect.now.server_name) in
+            IsAnswered (session_refusal self.old.side.server self.old.side.sessions e)
+            (λ kept. Does self.old (BySessions e) (OfSessions (WasKept kept.instead_of)) self.new)
+            (self.new ≡ self.old) result }
     {
         self.side.connect(session, connect)
     }
@@ -560,7 +610,12 @@ impl<N: NodeName> HubState<N> {
 
     /// [`Hub::drain`](hub_core::Hub::drain); a peer that is cut loses the session that was kept with it.
     pub fn drain(&mut self) -> Result<Vec<usize>, Failure<HubFault>>
-        ensures { IsAnswered (hub_refusal self.old.side.server self.old.side.hub Drain) (λ cut. Does self.old (ByHub Drain) (OfHub (Drained (drain_frames self.old.side.server self.old.side.hub) cut.items)) self.new) (self.new ≡ self.old) result }
+        ensures { IsAnswered (hub_refusal self.old.side.server self.old.side.hub Drain)
+            (λ cut.
+            Does self.old (ByHub Drain)
+            (OfHub (Drained (drain_frames self.old.side.server self.old.side.hub) cut.items))
+            self.new)
+            (self.new ≡ self.old) result }
     {
         self.side.drain()
     }
@@ -571,7 +626,11 @@ impl<N: NodeName> HubState<N> {
         peer: usize,
         count: usize,
     ) -> Result<Vec<Numbered>, Failure<HubFault>>
-        ensures { IsAnswered (hub_refusal self.old.side.server self.old.side.hub (TakeFrom peer count)) (λ frames. Does self.old (ByHub (TakeFrom peer count)) (OfHub (Taken frames.items)) self.new) (self.new ≡ self.old) result }
+        ensures { IsAnswered
+            (hub_refusal self.old.side.server self.old.side.hub (TakeFrom peer count))
+            (λ frames.
+            Does self.old (ByHub (TakeFrom peer count)) (OfHub (Taken frames.items)) self.new)
+            (self.new ≡ self.old) result }
     {
         self.side.take_frames(peer, count)
     }

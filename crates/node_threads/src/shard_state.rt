@@ -57,8 +57,11 @@ impl<T: SubTable, N: NodeName> Model for ShardState<T, N> {
 
     ghost view = { λ s. seen_as s.shard.state s.seat.part s.lane.popped s.lane.hand s.waits };
 
-    ghost invariant = { λ s. IsAtWork N.race.shards s.next_index (seen_as s.shard.state s.seat.part s.lane.popped s.lane.hand s.waits)
-        × (s.waits ≡ true → is_some s.lane.hand ≡ true) × (s.seat.race ≡ N.race)
+    ghost invariant = { λ s.
+        IsAtWork N.race.shards s.next_index
+        (seen_as s.shard.state s.seat.part s.lane.popped s.lane.hand s.waits)
+        × (s.waits ≡ true → is_some s.lane.hand ≡ true)
+        × (s.seat.race ≡ N.race)
         × (slice_get N.lanes (s.seat.part.shard - 1) ≡ Some s.lane.lane) };
 }
 
@@ -119,7 +122,8 @@ impl<T: SubTable, N: NodeName> ShardState<T, N> {
 
     /// [`Shard::attach`].
     pub fn attach(&mut self) -> Result<ConnId, Failure<ShardFault>>
-        ensures { IsAnswered (shard_refusal self.old.state Attach) (λ conn. Does self.old Attach (Attached conn) self.new) (self.new ≡ self.old) result }
+        ensures { IsAnswered (shard_refusal self.old.state Attach)
+            (λ conn. Does self.old Attach (Attached conn) self.new) (self.new ≡ self.old) result }
     {
         self.shard.attach()
     }
@@ -131,7 +135,9 @@ impl<T: SubTable, N: NodeName> ShardState<T, N> {
         key: Key,
         sid: Sid,
     ) -> Result<Subscribed, Failure<ShardFault>>
-        ensures { IsAnswered (shard_refusal self.old.state (Subscribe conn key sid)) (λ done. Does self.old (Subscribe conn key sid) (answer_of done) self.new) (self.new ≡ self.old) result }
+        ensures { IsAnswered (shard_refusal self.old.state (Subscribe conn key sid))
+            (λ done. Does self.old (Subscribe conn key sid) (answer_of done) self.new)
+            (self.new ≡ self.old) result }
     {
         self.shard.subscribe(conn, key, sid)
     }
@@ -143,49 +149,65 @@ impl<T: SubTable, N: NodeName> ShardState<T, N> {
         sid: &Sid,
         max: Option<u64>,
     ) -> Result<Option<SubId>, ShardFault>
-        ensures { IsDecided (shard_refusal self.old.state (Unsubscribe conn sid.now max)) (λ ended. Does self.old (Unsubscribe conn sid.now max) (Unsubscribed (option_to_list ended)) self.new) (self.new ≡ self.old) result }
+        ensures { IsDecided (shard_refusal self.old.state (Unsubscribe conn sid.now max))
+            (λ ended.
+            Does self.old (Unsubscribe conn sid.now max) (Unsubscribed (option_to_list ended))
+            self.new)
+            (self.new ≡ self.old) result }
     {
         self.shard.unsubscribe(conn, sid, max)
     }
 
     /// [`Shard::reply`].
     pub fn reply(&mut self, conn: ConnId, frame: &ReplyFrame) -> Result<Closed, Failure<ShardFault>>
-        ensures { IsAnswered (shard_refusal self.old.state (Reply conn frame.now)) (λ closed. Does self.old (Reply conn frame.now) (Replied closed.shut closed.ended.items) self.new) (self.new ≡ self.old) result }
+        ensures { IsAnswered (shard_refusal self.old.state (Reply conn frame.now))
+            (λ closed.
+            Does self.old (Reply conn frame.now) (Replied closed.shut closed.ended.items) self.new)
+            (self.new ≡ self.old) result }
     {
         self.shard.reply(conn, frame)
     }
 
     /// [`Shard::set_headers`].
     pub fn set_headers(&mut self, conn: ConnId, on: bool) -> Result<(), ShardFault>
-        ensures { IsDecided (shard_refusal self.old.state (SetHeaders conn on)) (λ _. Does self.old (SetHeaders conn on) HeadersSet self.new) (self.new ≡ self.old) result }
+        ensures { IsDecided (shard_refusal self.old.state (SetHeaders conn on))
+            (λ _. Does self.old (SetHeaders conn on) HeadersSet self.new) (self.new ≡ self.old)
+            result }
     {
         self.shard.set_headers(conn, on)
     }
 
     /// [`Shard::drain`].
     pub fn drain(&mut self) -> Result<(), ShardFault>
-        ensures { IsDecided (shard_refusal self.old.state Drain) (λ _. Does self.old Drain Drains self.new) (self.new ≡ self.old) result }
+        ensures { IsDecided (shard_refusal self.old.state Drain)
+            (λ _. Does self.old Drain Drains self.new) (self.new ≡ self.old) result }
     {
         self.shard.drain()
     }
 
     /// [`Shard::shut`].
     pub fn shut(&mut self, conn: ConnId, text: ErrText) -> Result<Vec<SubId>, Failure<ShardFault>>
-        ensures { IsAnswered (shard_refusal self.old.state (Shut conn text)) (λ ended. Does self.old (Shut conn text) (WasShut ended.items) self.new) (self.new ≡ self.old) result }
+        ensures { IsAnswered (shard_refusal self.old.state (Shut conn text))
+            (λ ended. Does self.old (Shut conn text) (WasShut ended.items) self.new)
+            (self.new ≡ self.old) result }
     {
         self.shard.shut(conn, text)
     }
 
     /// [`Shard::detach`].
     pub fn detach(&mut self, conn: ConnId) -> Result<Vec<SubId>, Failure<ShardFault>>
-        ensures { IsAnswered (shard_refusal self.old.state (Detach conn)) (λ ended. Does self.old (Detach conn) (Detached ended.items) self.new) (self.new ≡ self.old) result }
+        ensures { IsAnswered (shard_refusal self.old.state (Detach conn))
+            (λ ended. Does self.old (Detach conn) (Detached ended.items) self.new)
+            (self.new ≡ self.old) result }
     {
         self.shard.detach(conn)
     }
 
     /// [`Shard::take`].
     pub fn take(&mut self, conn: ConnId, count: usize) -> Result<Vec<Entry>, Failure<ShardFault>>
-        ensures { IsAnswered (shard_refusal self.old.state (Take conn count)) (λ entries. Does self.old (Take conn count) (Taken entries.items) self.new) (self.new ≡ self.old) result }
+        ensures { IsAnswered (shard_refusal self.old.state (Take conn count))
+            (λ entries. Does self.old (Take conn count) (Taken entries.items) self.new)
+            (self.new ≡ self.old) result }
     {
         self.shard.take(conn, count)
     }
@@ -197,7 +219,9 @@ impl<T: SubTable, N: NodeName> ShardState<T, N> {
         count: usize,
         out: &mut Vec<u8>,
     ) -> Result<usize, Failure<ShardFault>>
-        ensures { IsAnswered (shard_refusal self.old.state (Take conn count)) (λ taken. TakesBytes self.old conn count taken out.old.items out.new.items self.new) ((self.new ≡ self.old) × (out.new.items ≡ out.old.items)) result }
+        ensures { IsAnswered (shard_refusal self.old.state (Take conn count))
+            (λ taken. TakesBytes self.old conn count taken out.old.items out.new.items self.new)
+            ((self.new ≡ self.old) × (out.new.items ≡ out.old.items)) result }
     {
         self.shard.take_bytes(conn, count, out)
     }

@@ -25,7 +25,8 @@ impl<E> Model for Tape<E> {
 
 /// Adds the entry to those that are kept.
 fn add<E: Drop>(entries: &mut Vec<E>, kept: &mut bool, entry: E)
-    ensures { kept.new ≡ true → (kept.old ≡ true) × (entries.new.items ≡ entries.old.items ++ entry ∷ []) }
+    ensures { kept.new ≡ true
+        → (kept.old ≡ true) × (entries.new.items ≡ entries.old.items ++ entry ∷ []) }
 {
     if *kept {
         *kept = entries.push(entry).is_ok();

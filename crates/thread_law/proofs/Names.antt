@@ -15,9 +15,12 @@ not_behind x xs r i = not_before x (head_below x xs r x i)
 rising_apart : (xs : List (List ℕ)) → are_rising xs ≡ true → NoRepeat xs
 rising_apart [] r i j x e f = absurd (none-some x e)
 rising_apart (y ∷ ys) r zero zero x e f = refl
-rising_apart (y ∷ ys) r zero (suc j) x e f = absurd (not_behind y ys r (subst (λ n. In n ys) (sym (same_Some y x e)) (in_read ys j x f)))
-rising_apart (y ∷ ys) r (suc i) zero x e f = absurd (not_behind y ys r (subst (λ n. In n ys) (sym (same_Some y x f)) (in_read ys i x e)))
-rising_apart (y ∷ ys) r (suc i) (suc j) x e f = ap suc (rising_apart ys (and_true (is_before_first y ys) (are_rising ys) r).1 i j x e f)
+rising_apart (y ∷ ys) r zero (suc j) x e f =
+    absurd (not_behind y ys r (subst (λ n. In n ys) (sym (same_Some y x e)) (in_read ys j x f)))
+rising_apart (y ∷ ys) r (suc i) zero x e f =
+    absurd (not_behind y ys r (subst (λ n. In n ys) (sym (same_Some y x f)) (in_read ys i x e)))
+rising_apart (y ∷ ys) r (suc i) (suc j) x e f =
+    ap suc (rising_apart ys (and_true (is_before_first y ys) (are_rising ys) r).1 i j x e f)
 
 pub names_apart : (xs : List (List ℕ)) → are_queue_names xs ≡ true → NoRepeat xs
 names_apart xs r = rising_apart xs (and_true (nat_le (length xs) MAX_QUEUE_NAMES) (are_rising xs) r).1

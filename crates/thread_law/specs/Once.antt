@@ -1,4 +1,5 @@
--- What a legal run does once: each publication has one job, and is put once for a queue name and once for a subscription.
+-- What a legal run does once: each publication has one job, and is put once for a queue name and
+-- once for a subscription.
 use Rattle.std.specs.Prelude.{◌≡◌, ℕ, ◌+◌, ◌<◌, List, [], ◌∷◌, ◌++◌}
 use Rattle.list_laws.specs.Lists.{Pairs}
 use Rattle.subj.specs.Servers.{ServerIdentity, own_name}
@@ -25,8 +26,10 @@ Precedes a b = a.origin ≡ b.origin → a.inc ≡ b.inc → a.number < b.number
 
 -- a client published it at this server, or a peer sent it
 abbrev pub BringsToHub : ServerIdentity → of_hub.Event → PubId → Type 0
-BringsToHub server (of_hub.Publish p finished) id = (id.origin ≡ own_name server) × (id.inc ≡ server.inc)
-BringsToHub server (of_hub.Receive frame finished) id = id ≡ record { origin = frame.from; inc = frame.inc; number = frame.number }
+BringsToHub server (of_hub.Publish p finished) id =
+    (id.origin ≡ own_name server) × (id.inc ≡ server.inc)
+BringsToHub server (of_hub.Receive frame finished) id =
+    id ≡ record { origin = frame.from; inc = frame.inc; number = frame.number }
 BringsToHub server (of_hub.Collect shard deltas) id = ⊥
 BringsToHub server of_hub.Drain id = ⊥
 BringsToHub server (of_hub.Up peer inc) id = ⊥
@@ -70,8 +73,10 @@ abbrev pub placed_by : List Done → List Placed
 placed_by [] = []
 placed_by (d ∷ earlier) = placed_by earlier ++ placed_in d.answer
 
--- at this place of those of the shard, counted from 0, stands one of this publication, for this subscription, as one of a queue group or not
-pub record IsPut (runs : List ShardRun) (shard place : ℕ) (id : PubId) (sub : SubId) (mode : Mode) : Type 0 where
+-- at this place of those of the shard, counted from 0, stands one of this publication, for this
+-- subscription, as one of a queue group or not
+pub record IsPut (runs : List ShardRun) (shard place : ℕ) (id : PubId) (sub : SubId) (mode : Mode) :
+    Type 0 where
   pub run : ShardRun
   pub of_shard : At runs shard run
   pub put : Placed
@@ -81,18 +86,36 @@ pub record IsPut (runs : List ShardRun) (shard place : ℕ) (id : PubId) (sub : 
 -- ---- each is done once
 
 pub record AreOnce (hub : HubRun) (runs : List ShardRun) : Type 0 where
-  -- the publications of one incarnation are given to the shards in rising number: so none stands in two jobs;
+  -- the publications of one incarnation are given to the shards in rising number: so none stands in
+  -- two jobs;
   pub ids : Pairs (λ (a b : Job). Precedes a.id b.id) hub.end.issued
   -- one publish or one frame of a peer gave it, and no other step gave a job of it
-  pub sources : (n : ℕ) (job : Job) → At hub.end.issued n job → (place : ℕ) × IsSource hub place job × ((other : ℕ) (again : Job) → IsSource hub other again → again.id ≡ job.id → other ≡ place)
+  pub sources : (n : ℕ) (job : Job)
+      → At hub.end.issued n job
+      → (place : ℕ) × IsSource hub place job
+      × ((other : ℕ) (again : Job) → IsSource hub other again → again.id ≡ job.id → other ≡ place)
   -- over all shards it is put once at most for a queue name,
-  pub members : (s t i j : ℕ) (id : PubId) (u v : SubId) (name : List ℕ) → IsPut runs s i id u (Queue name) → IsPut runs t j id v (Queue name) → (s ≡ t) × (i ≡ j)
+  pub members : (s t i j : ℕ) (id : PubId) (u v : SubId) (name : List ℕ)
+      → IsPut runs s i id u (Queue name)
+      → IsPut runs t j id v (Queue name)
+      → (s ≡ t) × (i ≡ j)
   -- and once at most for a subscription without one;
-  pub plain : (s t i j : ℕ) (id : PubId) (u : SubId) → IsPut runs s i id u Plain → IsPut runs t j id u Plain → (s ≡ t) × (i ≡ j)
-  -- a subscription is of the shard that it names, and those of one incarnation are put for it in rising number
-  pub own : (s i : ℕ) (id : PubId) (u : SubId) (mode : Mode) → IsPut runs s i id u mode → u.shard ≡ s + 1
-  pub rising : (s i j : ℕ) (a b : PubId) (u : SubId) (m n : Mode) → IsPut runs s i a u m → IsPut runs s j b u n → i < j → Precedes a b
+  pub plain : (s t i j : ℕ) (id : PubId) (u : SubId)
+      → IsPut runs s i id u Plain
+      → IsPut runs t j id u Plain
+      → (s ≡ t) × (i ≡ j)
+  -- a subscription is of the shard that it names, and those of one incarnation are put for it in
+  -- rising number
+  pub own : (s i : ℕ) (id : PubId) (u : SubId) (mode : Mode)
+      → IsPut runs s i id u mode
+      → u.shard ≡ s + 1
+  pub rising : (s i j : ℕ) (a b : PubId) (u : SubId) (m n : Mode)
+      → IsPut runs s i a u m
+      → IsPut runs s j b u n
+      → i < j
+      → Precedes a b
 
 -- so is every legal run
 abbrev pub LegalRunsAreOnce : Type 0
-LegalRunsAreOnce = (shards : ℕ) (hub : HubRun) (runs : List ShardRun) → IsLegal shards hub runs → AreOnce hub runs
+LegalRunsAreOnce =
+    (shards : ℕ) (hub : HubRun) (runs : List ShardRun) → IsLegal shards hub runs → AreOnce hub runs

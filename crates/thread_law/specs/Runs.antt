@@ -21,8 +21,8 @@ pub record HubRun : Type 0 where
   pub steps : List of_hub.Done
   pub end : AtHub
 
--- Of a server of a cluster each step is the hub's or the sessions' own, and the jobs given to the shards are those of their answers, whose queue names
--- stand in order.
+-- Of a server of a cluster each step is the hub's or the sessions' own, and the jobs given to the
+-- shards are those of their answers, whose queue names stand in order.
 pub record IsHubRun (run : HubRun) : Type 0 where
   pub listed : IsListed run.end.side.server
   pub led : of_hub.Leads (of_hub.new_side run.end.side.server) run.steps run.end.side
@@ -30,8 +30,8 @@ pub record IsHubRun (run : HubRun) : Type 0 where
   pub count : length run.end.issued ≡ run.end.part.issued
   pub named : Each (λ job. are_queue_names job.queues ≡ true) run.end.issued
 
--- Each step is the shard's own; what it began and dropped is what it popped, in order, and that is a beginning of what was given to the shards. Its
--- seat won and lost just what its steps say.
+-- Each step is the shard's own; what it began and dropped is what it popped, in order, and that is
+-- a beginning of what was given to the shards. Its seat won and lost just what its steps say.
 pub record IsShardRun (shards : ℕ) (issued : List Job) (number : ℕ) (run : ShardRun) : Type 0 where
   pub made : Makes (at_start number shards) run.steps run.end
   pub given : AreFirst run.end.popped issued
@@ -43,11 +43,20 @@ claims_won run = claims_of true run.steps
 abbrev pub claims_lost : ShardRun → List (ℕ × ℕ)
 claims_lost run = claims_of false run.steps
 
--- The hub and each shard of a server, that of shard 1 first, did only steps of their own, over the jobs that were given. No queue name of a turn was
--- won twice, and each that was lost was won by another shard.
+-- The hub and each shard of a server, that of shard 1 first, did only steps of their own, over the
+-- jobs that were given. No queue name of a turn was won twice, and each that was lost was won by
+-- another shard.
 pub record IsLegal (shards : ℕ) (hub : HubRun) (runs : List ShardRun) : Type 0 where
   pub hub_run : IsHubRun hub
   pub count : length runs ≡ shards
   pub each : (k : ℕ) (run : ShardRun) → At runs k run → IsShardRun shards hub.end.issued (k + 1) run
-  pub once : (k l i j : ℕ) (r q : ShardRun) (pair : ℕ × ℕ) → At runs k r → At runs l q → At (claims_won r) i pair → At (claims_won q) j pair → (k ≡ l) × (i ≡ j)
-  pub others : (k : ℕ) (r : ShardRun) (pair : ℕ × ℕ) → At runs k r → Has (claims_lost r) pair → (l : ℕ) × (q : ShardRun) × (l ≢ k) × At runs l q × Has (claims_won q) pair
+  pub once : (k l i j : ℕ) (r q : ShardRun) (pair : ℕ × ℕ)
+      → At runs k r
+      → At runs l q
+      → At (claims_won r) i pair
+      → At (claims_won q) j pair
+      → (k ≡ l) × (i ≡ j)
+  pub others : (k : ℕ) (r : ShardRun) (pair : ℕ × ℕ)
+      → At runs k r
+      → Has (claims_lost r) pair
+      → (l : ℕ) × (q : ShardRun) × (l ≢ k) × At runs l q × Has (claims_won q) pair

@@ -17,11 +17,17 @@ server_stays : (s : HubWithSessions) (e : Event) → (side_after s e).server ≡
 server_stays s (ByHub e) = refl
 server_stays s (BySessions e) = refl
 
-pub same_server : (old new : HubWithSessions) (e : Event) (answer : Answer) → IsDone old e answer new → new.server ≡ old.server
+pub same_server : (old new : HubWithSessions) (e : Event) (answer : Answer)
+    → IsDone old e answer new
+    → new.server ≡ old.server
 same_server old new e answer d = ap (λ (s : HubWithSessions). s.server) d.after ∙ server_stays old e
 
 -- one event more, with the jobs of its answer
-pub done_more : (w new : AtHub) (e : Event) (answer : Answer) → HasDone w → IsDone w.side e answer new.side → new.issued ≡ w.issued ++ job_in answer → HasDone new
+pub done_more : (w new : AtHub) (e : Event) (answer : Answer)
+    → HasDone w
+    → IsDone w.side e answer new.side
+    → new.issued ≡ w.issued ++ job_in answer
+    → HasDone new
 done_more w new e answer h d gave = record {
   steps = record { before = w.side; event = e; answer = answer } ∷ h.steps;
   led = (d, subst (λ s. Leads (new_side s) h.steps w.side) (sym (same_server w.side new.side e answer d)) h.led);
@@ -42,7 +48,10 @@ quiet_sessions s (of_sessions.Dial q) = record { jobs = refl; issued = refl }
 quiet_sessions s of_sessions.Accept = record { jobs = refl; issued = refl }
 quiet_sessions s (of_sessions.OnInfo session info least) = record { jobs = refl; issued = refl }
 quiet_sessions s (of_sessions.OnConnect session connect least) = record { jobs = refl; issued = refl }
-quiet_sessions s (of_sessions.Cut session) = record { jobs = refl; issued = quiet_cut s.hub (peer_of_session session s.sessions.standing) }
+quiet_sessions s (of_sessions.Cut session) = record {
+  jobs = refl;
+  issued = quiet_cut s.hub (peer_of_session session s.sessions.standing);
+}
 
 pub quiet_take : (s : HubWithSessions) (q count : ℕ) → Quiet s (ByHub (of_hub.TakeFrom q count))
 quiet_take s q count = record { jobs = refl; issued = refl }
@@ -51,9 +60,14 @@ quiet_take s q count = record { jobs = refl; issued = refl }
 abbrev pub with_side : AtHub → HubWithSessions → AtHub
 with_side w side = hub_at side w.part w.finished w.issued
 
-pub at_hub_does : (shards : ℕ) (w : AtHub) (new : HubWithSessions) (e : Event) (answer : Answer) → Quiet w.side e → IsDone w.side e answer new → IsAtHub shards w → IsAtHub shards (with_side w new)
+pub at_hub_does : (shards : ℕ) (w : AtHub) (new : HubWithSessions) (e : Event) (answer : Answer)
+    → Quiet w.side e
+    → IsDone w.side e answer new
+    → IsAtHub shards w
+    → IsAtHub shards (with_side w new)
 at_hub_does shards w new e answer q d i =
-    let issued : new.hub.issued ≡ w.side.hub.issued = ap (λ (s : HubWithSessions). s.hub.issued) d.after ∙ q.issued in record {
+    let issued : new.hub.issued ≡ w.side.hub.issued = ap (λ (s : HubWithSessions). s.hub.issued) d.after ∙ q.issued in
+    record {
       listed = subst IsListed (sym (same_server w.side new e answer d)) i.listed;
       own = ap (λ s. s.shards) (same_server w.side new e answer d) ∙ i.own;
       few = i.few;
@@ -62,30 +76,58 @@ at_hub_does shards w new e answer q d i =
       turns = i.turns ∙ sym issued;
       count = i.count ∙ sym issued;
       named = i.named;
-      done = done_more w (with_side w new) e answer i.done d (sym (append-nil w.issued) ∙ ap (λ l. w.issued ++ l) (sym (ap job_in d.answered ∙ q.jobs)));
+      done =
+          done_more w (with_side w new) e answer i.done d
+          (sym (append-nil w.issued) ∙ ap (λ l. w.issued ++ l) (sym (ap job_in d.answered ∙ q.jobs)));
     }
 
-pub record Called (R T : Type 0) (shards : ℕ) (w : AtHub) (new : HubWithSessions) (e : Event) (answer : T → Answer) (cause : Option R) (r : Result T (Failure R)) : Type 0 where
+pub record Called (R T : Type 0) (shards : ℕ) (w : AtHub) (new : HubWithSessions) (e : Event) (answer : T → Answer)
+    (cause : Option R) (r : Result T (Failure R)) : Type 0 where
   pub keeps : IsAtHub shards (with_side w new)
   pub answers : IsAnswered cause (λ x. Does w e (answer x) (with_side w new)) (with_side w new ≡ w) r
 
-pub does_call : {R T : Type 0} (shards : ℕ) (w : AtHub) (new : HubWithSessions) (e : Event) (answer : T → Answer) (cause : Option R) (r : Result T (Failure R)) → Quiet w.side e → IsAtHub shards w
-    → IsAnswered cause (λ x. IsDone w.side e (answer x) new) (new ≡ w.side) r → Called R T shards w new e answer cause r
-does_call shards w new e answer cause (Ok x) q i h = record { keeps = at_hub_does shards w new e (answer x) q h.1 i; answers = (h.0, record { done = h.1; after = refl }) }
-does_call shards w new e answer cause (Err (Refused why)) q i h = record { keeps = subst (λ s. IsAtHub shards (with_side w s)) (sym h.1) i; answers = (h.0, ap (with_side w) h.1) }
-does_call shards w new e answer cause (Err OutOfMemory) q i h = record { keeps = subst (λ s. IsAtHub shards (with_side w s)) (sym h.1) i; answers = (h.0, ap (with_side w) h.1) }
+pub does_call : {R T : Type 0} (shards : ℕ) (w : AtHub) (new : HubWithSessions) (e : Event) (answer : T → Answer)
+    (cause : Option R) (r : Result T (Failure R))
+    → Quiet w.side e
+    → IsAtHub shards w
+    → IsAnswered cause (λ x. IsDone w.side e (answer x) new) (new ≡ w.side) r
+    → Called R T shards w new e answer cause r
+does_call shards w new e answer cause (Ok x) q i h = record {
+  keeps = at_hub_does shards w new e (answer x) q h.1 i;
+  answers = (h.0, record { done = h.1; after = refl });
+}
+does_call shards w new e answer cause (Err (Refused why)) q i h = record {
+  keeps = subst (λ s. IsAtHub shards (with_side w s)) (sym h.1) i;
+  answers = (h.0, ap (with_side w) h.1);
+}
+does_call shards w new e answer cause (Err OutOfMemory) q i h = record {
+  keeps = subst (λ s. IsAtHub shards (with_side w s)) (sym h.1) i;
+  answers = (h.0, ap (with_side w) h.1);
+}
 
 -- the same of a call that takes no memory
-pub record Decided (R T : Type 0) (shards : ℕ) (w : AtHub) (new : HubWithSessions) (e : Event) (answer : T → Answer) (cause : Option R) (r : Result T R) : Type 0 where
+pub record Decided (R T : Type 0) (shards : ℕ) (w : AtHub) (new : HubWithSessions) (e : Event) (answer : T → Answer)
+    (cause : Option R) (r : Result T R) : Type 0 where
   pub keeps : IsAtHub shards (with_side w new)
   pub answers : IsDecided cause (λ x. Does w e (answer x) (with_side w new)) (with_side w new ≡ w) r
 
-pub does_decided : {R T : Type 0} (shards : ℕ) (w : AtHub) (new : HubWithSessions) (e : Event) (answer : T → Answer) (cause : Option R) (r : Result T R) → Quiet w.side e → IsAtHub shards w
-    → IsDecided cause (λ x. IsDone w.side e (answer x) new) (new ≡ w.side) r → Decided R T shards w new e answer cause r
-does_decided shards w new e answer cause (Ok x) q i h = record { keeps = at_hub_does shards w new e (answer x) q h.1 i; answers = (h.0, record { done = h.1; after = refl }) }
-does_decided shards w new e answer cause (Err why) q i h = record { keeps = subst (λ s. IsAtHub shards (with_side w s)) (sym h.1) i; answers = (h.0, ap (with_side w) h.1) }
+pub does_decided : {R T : Type 0} (shards : ℕ) (w : AtHub) (new : HubWithSessions) (e : Event) (answer : T → Answer)
+    (cause : Option R) (r : Result T R)
+    → Quiet w.side e
+    → IsAtHub shards w
+    → IsDecided cause (λ x. IsDone w.side e (answer x) new) (new ≡ w.side) r
+    → Decided R T shards w new e answer cause r
+does_decided shards w new e answer cause (Ok x) q i h = record {
+  keeps = at_hub_does shards w new e (answer x) q h.1 i;
+  answers = (h.0, record { done = h.1; after = refl });
+}
+does_decided shards w new e answer cause (Err why) q i h = record {
+  keeps = subst (λ s. IsAtHub shards (with_side w s)) (sym h.1) i;
+  answers = (h.0, ap (with_side w) h.1);
+}
 
-pub quiet_collect : (s : HubWithSessions) (shard : ℕ) (deltas : List Delta) → Quiet s (ByHub (of_hub.Collect shard deltas))
+pub quiet_collect : (s : HubWithSessions) (shard : ℕ) (deltas : List Delta)
+    → Quiet s (ByHub (of_hub.Collect shard deltas))
 quiet_collect s shard deltas = record { jobs = refl; issued = refl }
 
 pub quiet_drain : (s : HubWithSessions) → Quiet s (ByHub of_hub.Drain)

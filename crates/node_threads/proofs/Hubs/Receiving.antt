@@ -39,7 +39,9 @@ pub record IsRoutedJob (h : hub.State) (frame : Frame) (b : Body) (job : Job) : 
   pub answers : of_hub.Routed job ≡ received_answer h frame b
   pub turn : job.turn ≡ h.issued + 1
 
-pub routed_answer : (h : hub.State) (frame : Frame) (b : Body) (job : Job) → Some job ≡ job_of h frame b → IsRoutedJob h frame b job
+pub routed_answer : (h : hub.State) (frame : Frame) (b : Body) (job : Job)
+    → Some job ≡ job_of h frame b
+    → IsRoutedJob h frame b job
 routed_answer h frame (Plus weighted) job e = absurd (none-some job (sym e))
 routed_answer h frame (Minus key) job e = absurd (none-some job (sym e))
 routed_answer h frame (Snapshot keys) job e = absurd (none-some job (sym e))
@@ -49,7 +51,12 @@ routed_answer h frame (Msg content queues) job e =
 
 -- ---- a message takes a turn
 
-pub may_route : (shards : ℕ) (w : AtHub) (frame : Frame) → IsListed w.side.server → IsAtHub shards w → receive_refusal w.side.server w.side.hub w.finished frame ≡ None → has_message frame.body ≡ true → MayIssue shards w
+pub may_route : (shards : ℕ) (w : AtHub) (frame : Frame)
+    → IsListed w.side.server
+    → IsAtHub shards w
+    → receive_refusal w.side.server w.side.hub w.finished frame ≡ None
+    → has_message frame.body ≡ true
+    → MayIssue shards w
 may_route shards w frame listed i free message = go frame.body message refl
   where
     go : (b : Body) → has_message b ≡ true → frame.body ≡ b → MayIssue shards w
@@ -59,15 +66,28 @@ may_route shards w frame listed i free message = go frame.body message refl
     go (Msg content queues) e is =
         let f = from_peer w.side.server listed w.side.hub w.finished frame free in
         let base = peer_in_life f.peer frame.inc in
-        let none : body_fault w.side.server w.side.hub base frame.number w.finished (Msg content queues) ≡ None = subst (λ b. body_fault w.side.server w.side.hub base frame.number w.finished b ≡ None) is f.none in
-        let late = no_cause (nat_le frame.number base.mark) fault.Late (option_or (busy_fault w.side.server w.side.hub w.finished) (if nat_le MAX_COUNTER w.side.hub.issued then Some fault.Spent else None)) none in
-        let o = or_none (busy_fault w.side.server w.side.hub w.finished) (if nat_le MAX_COUNTER w.side.hub.issued then Some fault.Spent else None) late.1 in
-        let low = le_false MAX_COUNTER w.side.hub.issued (no_cause (nat_le MAX_COUNTER w.side.hub.issued) fault.Spent None o.1).0 in
+        let none : body_fault w.side.server w.side.hub base frame.number w.finished (Msg content queues) ≡ None =
+        subst (λ b. body_fault w.side.server w.side.hub base frame.number w.finished b ≡ None) is f.none in
+        let late = no_cause (nat_le frame.number base.mark) fault.Late
+        (option_or (busy_fault w.side.server w.side.hub w.finished)
+        (if nat_le MAX_COUNTER w.side.hub.issued then Some fault.Spent else None))
+        none in
+        let o = or_none (busy_fault w.side.server w.side.hub w.finished)
+        (if nat_le MAX_COUNTER w.side.hub.issued then Some fault.Spent else None) late.1 in
+        let low = le_false MAX_COUNTER w.side.hub.issued
+        (no_cause (nat_le MAX_COUNTER w.side.hub.issued) fault.Spent None o.1).0 in
         let same = i.turns in
         record { limit = omega arith; room = shows_room shards w i o.0 }
 
-pub issued_more : (server : ServerIdentity) (h : hub.State) (frame : Frame) → has_message frame.body ≡ true → (after_receive server h frame).issued ≡ h.issued + 1
+pub issued_more : (server : ServerIdentity) (h : hub.State) (frame : Frame)
+    → has_message frame.body ≡ true
+    → (after_receive server h frame).issued ≡ h.issued + 1
 issued_more server h frame e = ap (λ b. if b then h.issued + 1 else h.issued) e
 
-pub quiet_news : (s : HubWithSessions) (frame : Frame) (finished : List ℕ) → has_message frame.body ≡ false → Quiet s (ByHub (of_hub.Receive frame finished))
-quiet_news s frame finished e = record { jobs = ap (λ a. job_in (OfHub a)) (sym (heard_answer s.hub frame frame.body e)); issued = ap (λ b. if b then s.hub.issued + 1 else s.hub.issued) e }
+pub quiet_news : (s : HubWithSessions) (frame : Frame) (finished : List ℕ)
+    → has_message frame.body ≡ false
+    → Quiet s (ByHub (of_hub.Receive frame finished))
+quiet_news s frame finished e = record {
+  jobs = ap (λ a. job_in (OfHub a)) (sym (heard_answer s.hub frame frame.body e));
+  issued = ap (λ b. if b then s.hub.issued + 1 else s.hub.issued) e;
+}

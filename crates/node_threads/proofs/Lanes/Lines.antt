@@ -3,7 +3,10 @@ use Rattle.std.proofs.Common.{◌≡◌, ℕ, zero, suc, ◌<◌, List, [], ◌�
 use Rattle.std.proofs.lemmas.List.Elements.{All-append}
 
 -- an element that is replaced by one with the same f
-pub map_set_same : {A B : Type 0} (f : A → B) (xs : List A) (i : ℕ) (y d : A) → d ≡ get_or xs i d → f y ≡ f d → map f (set xs i y) ≡ map f xs
+pub map_set_same : {A B : Type 0} (f : A → B) (xs : List A) (i : ℕ) (y d : A)
+    → d ≡ get_or xs i d
+    → f y ≡ f d
+    → map f (set xs i y) ≡ map f xs
 map_set_same f [] i y d at same = refl
 map_set_same f (x ∷ xs) zero y d at same = ap (λ b. b ∷ map f xs) (same ∙ ap f at)
 map_set_same f (x ∷ xs) (suc i) y d at same = ap (λ l. f x ∷ l) (map_set_same f xs i y d at same)
@@ -39,7 +42,9 @@ drop_get (suc i) (x ∷ xs) [] d e = sym (get_nil i xs d (sym e))
 drop_get (suc i) (x ∷ xs) (y ∷ ys) d e = drop_get i xs ys d e
 
 -- the first elements, once the next one is set
-take_set_more : {A : Type 0} (xs : List A) (i : ℕ) (y : A) → i < length xs → take (suc i) (set xs i y) ≡ take i xs ++ y ∷ []
+take_set_more : {A : Type 0} (xs : List A) (i : ℕ) (y : A)
+    → i < length xs
+    → take (suc i) (set xs i y) ≡ take i xs ++ y ∷ []
 take_set_more [] i y lt = absurd (omega arith)
 take_set_more (x ∷ xs) zero y lt = refl
 take_set_more (x ∷ xs) (suc i) y lt = ap (λ l. x ∷ l) (take_set_more xs i y (omega arith))
@@ -48,8 +53,13 @@ All_one : {A : Type 0} (P : A → Type 0) (y : A) → P y → All P (y ∷ [])
 All_one P y p zero d lt = p
 All_one P y p (suc k) d lt = absurd (omega arith)
 
-pub All_take_set : {A : Type 0} (P : A → Type 0) (xs : List A) (i : ℕ) (y : A) → i < length xs → All P (take i xs) → P y → All P (take (suc i) (set xs i y))
-All_take_set P xs i y lt all new = subst (All P) (sym (take_set_more xs i y lt)) (All-append P (take i xs) (y ∷ []) all (All_one P y new))
+pub All_take_set : {A : Type 0} (P : A → Type 0) (xs : List A) (i : ℕ) (y : A)
+    → i < length xs
+    → All P (take i xs)
+    → P y
+    → All P (take (suc i) (set xs i y))
+All_take_set P xs i y lt all new =
+    subst (All P) (sym (take_set_more xs i y lt)) (All-append P (take i xs) (y ∷ []) all (All_one P y new))
 
 pub All_snoc : {A : Type 0} (P : A → Type 0) (xs : List A) (y : A) → All P xs → P y → All P (xs ++ y ∷ [])
 All_snoc P xs y all new = All-append P xs (y ∷ []) all (All_one P y new)

@@ -61,7 +61,11 @@ record Rests (s after : State) : Type 0 where
   next : after.next_index ≡ s.next_index
   finished : after.finished ≡ s.finished
 
-still : (s after : State) → after.hand ≡ s.hand → after.next_index ≡ s.next_index → after.finished ≡ s.finished → Rests s after
+still : (s after : State)
+    → after.hand ≡ s.hand
+    → after.next_index ≡ s.next_index
+    → after.finished ≡ s.finished
+    → Rests s after
 still s after h n f = record { hand = h; next = n; finished = f }
 
 either : (s x y : State) (b : Bool) → Rests s x → Rests s y → Rests s (cond b x y)
@@ -96,8 +100,11 @@ rests s Collect c = still s _ refl refl refl
 abbrev pub with_state : AtWork → State → AtWork
 with_state w s = record w { state = s }
 
-pub client_makes : (w : AtWork) (e : Event) → is_client e ≡ true → shard_refusal w.state e ≡ None
-    → Makes w (record { before = w.state; event = e; answer = shard_answer w.state e } ∷ []) (with_state w (shard_after w.state e))
+pub client_makes : (w : AtWork) (e : Event)
+    → is_client e ≡ true
+    → shard_refusal w.state e ≡ None
+    → Makes w (record { before = w.state; event = e; answer = shard_answer w.state e } ∷ [])
+    (with_state w (shard_after w.state e))
 client_makes w e c free = let q = quiet w.state e c in record {
   got = [];
   led = (record { cause = free; asked = q.asked; answered = refl; after = refl }, refl);
@@ -108,27 +115,53 @@ client_makes w e c free = let q = quiet w.state e c in record {
   lost = sym (append-nil w.part.lost) ∙ ap (λ l. w.part.lost ++ l) (sym (q.claims false));
 }
 
-client_done : (shards : ℕ) (w : AtWork) (e : Event) → is_client e ≡ true → shard_refusal w.state e ≡ None → HasDone shards w → HasDone shards (with_state w (shard_after w.state e))
-client_done shards w e c free d = (_, makes_join (at_start w.part.shard shards) w (with_state w (shard_after w.state e)) d.0 (record { before = w.state; event = e; answer = shard_answer w.state e } ∷ []) d.1 (client_makes w e c free))
+client_done : (shards : ℕ) (w : AtWork) (e : Event)
+    → is_client e ≡ true
+    → shard_refusal w.state e ≡ None
+    → HasDone shards w
+    → HasDone shards (with_state w (shard_after w.state e))
+client_done shards w e c free d = (
+  _,
+  makes_join (at_start w.part.shard shards) w (with_state w (shard_after w.state e)) d.0
+      (record { before = w.state; event = e; answer = shard_answer w.state e } ∷ []) d.1 (client_makes w e c free),
+)
 
-pub client_at_work : (shards next_index : ℕ) (w : AtWork) (e : Event) → is_client e ≡ true → shard_refusal w.state e ≡ None → IsAtWork shards next_index w → IsAtWork shards next_index (with_state w (shard_after w.state e))
-client_at_work shards next_index w e c free i = let r = rests w.state e c in record {
-  index = i.index ∙ sym r.next;
-  finished = i.finished ∙ sym r.finished;
-  next = subst (λ n. w.part.next ≤ n) ((λ k. tried_of (sym r.hand k) (sym r.next k))) i.next;
-  hand = λ job h. let t = i.hand job (sym r.hand ∙ h) in record { turn = t.turn ∙ ap (λ f. f + 1) (sym r.finished); seen = t.seen; tried = subst (λ n. n ≤ length job.queues) (sym r.next) t.tried };
-  waits = λ job h. let n = i.waits job h in record { turn = n.turn ∙ ap (λ f. f + 1) (sym r.finished); alone = r.hand ∙ n.alone };
-  count = i.count ∙ (λ k. (sym r.finished k) + one_if (sym r.hand k) + one_if w.waiting);
-  done = client_done shards w e c free i.done;
-}
+pub client_at_work : (shards next_index : ℕ) (w : AtWork) (e : Event)
+    → is_client e ≡ true
+    → shard_refusal w.state e ≡ None
+    → IsAtWork shards next_index w
+    → IsAtWork shards next_index (with_state w (shard_after w.state e))
+client_at_work shards next_index w e c free i =
+    let r = rests w.state e c in
+    record {
+      index = i.index ∙ sym r.next;
+      finished = i.finished ∙ sym r.finished;
+      next = subst (λ n. w.part.next ≤ n) ((λ k. tried_of (sym r.hand k) (sym r.next k))) i.next;
+      hand = λ job h.
+          let t = i.hand job (sym r.hand ∙ h) in
+          record {
+            turn = t.turn ∙ ap (λ f. f + 1) (sym r.finished);
+            seen = t.seen;
+            tried = subst (λ n. n ≤ length job.queues) (sym r.next) t.tried;
+          };
+      waits = λ job h.
+          let n = i.waits job h in
+          record { turn = n.turn ∙ ap (λ f. f + 1) (sym r.finished); alone = r.hand ∙ n.alone };
+      count = i.count ∙ (λ k. (sym r.finished k) + one_if (sym r.hand k) + one_if w.waiting);
+      done = client_done shards w e c free i.done;
+    }
 
 -- what a call of a client comes to
-pub record Called (T : Type 0) (shards next_index : ℕ) (w new : AtWork) (e : Event) (answer : T → Answer) (r : Result T (Failure ShardFault)) : Type 0 where
+pub record Called (T : Type 0) (shards next_index : ℕ) (w new : AtWork) (e : Event) (answer : T → Answer)
+    (r : Result T (Failure ShardFault)) : Type 0 where
   pub works : IsAtWork shards next_index new
   pub answers : IsAnswered (shard_refusal w.state e) (λ x. Does w e (answer x) new) (new ≡ w) r
 
-pub client_call : {T : Type 0} (shards next_index : ℕ) (w : AtWork) (held held' : Held) (e : Event) (answer : T → Answer) (r : Result T (Failure ShardFault))
-    → is_client e ≡ true → w.state ≡ held.state → IsAtWork shards next_index w
+pub client_call : {T : Type 0} (shards next_index : ℕ) (w : AtWork) (held held' : Held) (e : Event)
+    (answer : T → Answer) (r : Result T (Failure ShardFault))
+    → is_client e ≡ true
+    → w.state ≡ held.state
+    → IsAtWork shards next_index w
     → IsAnswered (shard_refusal held.state e) (λ x. DoesStep held e (answer x) held') (IsLeft held held') r
     → Called T shards next_index w (with_state w held'.state) e answer r
 client_call {T} shards next_index w held held' e answer r c is i h = go r h
@@ -139,57 +172,97 @@ client_call {T} shards next_index w held held' e answer r c is i h = go r h
     left : IsLeft held held' → with_state w held'.state ≡ w
     left l = ap (λ s. with_state w s) (ap (λ (h : Held). h.state) l ∙ sym is)
 
-    stays : (r : Result T (Failure ShardFault)) → with_state w held'.state ≡ w → IsAnswered (shard_refusal w.state e) (λ x. Does w e (answer x) (with_state w held'.state)) (with_state w held'.state ≡ w) r → Called T shards next_index w (with_state w held'.state) e answer r
+    stays : (r : Result T (Failure ShardFault))
+        → with_state w held'.state ≡ w
+        → IsAnswered (shard_refusal w.state e) (λ x. Does w e (answer x) (with_state w held'.state))
+        (with_state w held'.state ≡ w) r
+        → Called T shards next_index w (with_state w held'.state) e answer r
     stays r l a = record { works = subst (IsAtWork shards next_index) (sym l) i; answers = a }
 
-    go : (r : Result T (Failure ShardFault)) → IsAnswered (shard_refusal held.state e) (λ x. DoesStep held e (answer x) held') (IsLeft held held') r → Called T shards next_index w (with_state w held'.state) e answer r
+    go : (r : Result T (Failure ShardFault))
+        → IsAnswered (shard_refusal held.state e) (λ x. DoesStep held e (answer x) held') (IsLeft held held') r
+        → Called T shards next_index w (with_state w held'.state) e answer r
     go (Ok x) g =
-        let after : held'.state ≡ shard_after w.state e = ap (λ (h : Held). h.state) g.1.after ∙ ap (λ s. shard_after s e) (sym is) in
+        let after : held'.state ≡ shard_after w.state e =
+        ap (λ (h : Held). h.state) g.1.after ∙ ap (λ s. shard_after s e) (sym is) in
         record {
-          works = subst (λ s. IsAtWork shards next_index (with_state w s)) (sym after) (client_at_work shards next_index w e c (free None g.0) i);
-          answers = (free None g.0, record { answered = g.1.answered ∙ ap (λ s. shard_answer s e) (sym is); after = ap (λ s. with_state w s) after });
+          works =
+              subst (λ s. IsAtWork shards next_index (with_state w s)) (sym after)
+              (client_at_work shards next_index w e c (free None g.0) i);
+          answers = (
+            free None g.0,
+            record {
+              answered = g.1.answered ∙ ap (λ s. shard_answer s e) (sym is);
+              after = ap (λ s. with_state w s) after;
+            },
+          );
         }
     go (Err (Refused why)) g = stays (Err (Refused why)) (left g.1) (free (Some why) g.0, left g.1)
     go (Err OutOfMemory) g = stays (Err OutOfMemory) (left g.1) (free None g.0, left g.1)
 
 -- the same of a call that takes no memory
-pub client_decided : {T : Type 0} (shards next_index : ℕ) (w : AtWork) (held held' : Held) (e : Event) (answer : T → Answer) (r : Result T ShardFault)
-    → is_client e ≡ true → w.state ≡ held.state → IsAtWork shards next_index w
+pub client_decided : {T : Type 0} (shards next_index : ℕ) (w : AtWork) (held held' : Held) (e : Event)
+    (answer : T → Answer) (r : Result T ShardFault)
+    → is_client e ≡ true
+    → w.state ≡ held.state
+    → IsAtWork shards next_index w
     → IsDecided (shard_refusal held.state e) (λ x. DoesStep held e (answer x) held') (IsLeft held held') r
     → IsAtWork shards next_index (with_state w held'.state)
 client_decided {T} shards next_index w held held' e answer r c is i h = go r h
   where
-    go : (r : Result T ShardFault) → IsDecided (shard_refusal held.state e) (λ x. DoesStep held e (answer x) held') (IsLeft held held') r → IsAtWork shards next_index (with_state w held'.state)
+    go : (r : Result T ShardFault)
+        → IsDecided (shard_refusal held.state e) (λ x. DoesStep held e (answer x) held') (IsLeft held held') r
+        → IsAtWork shards next_index (with_state w held'.state)
     go (Ok x) g = (client_call shards next_index w held held' e answer (Ok x) c is i g).works
     go (Err why) g = (client_call shards next_index w held held' e answer (Err (Refused why)) c is i g).works
 
 -- the deltas are handed over
-pub collected_at_work : (shards next_index : ℕ) (w : AtWork) (held held' : Held) (answer : Answer) → w.state ≡ held.state → IsAtWork shards next_index w → DoesStep held Collect answer held' → IsAtWork shards next_index (with_state w held'.state)
+pub collected_at_work : (shards next_index : ℕ) (w : AtWork) (held held' : Held) (answer : Answer)
+    → w.state ≡ held.state
+    → IsAtWork shards next_index w
+    → DoesStep held Collect answer held'
+    → IsAtWork shards next_index (with_state w held'.state)
 collected_at_work shards next_index w held held' answer is i d =
     (client_call {T = Unit {0}} shards next_index w held held' Collect (λ _. answer) (Ok tt) refl is i (refl, d)).works
 
 -- what a take comes to that moves the bytes of the entries
-pub record TookBytes (shards next_index : ℕ) (w new : AtWork) (conn count : ℕ) (before bytes : List ℕ) (r : Result ℕ (Failure ShardFault)) : Type 0 where
+pub record TookBytes (shards next_index : ℕ) (w new : AtWork) (conn count : ℕ) (before bytes : List ℕ)
+    (r : Result ℕ (Failure ShardFault)) : Type 0 where
   pub works : IsAtWork shards next_index new
-  pub answers : IsAnswered (shard_refusal w.state (Take conn count)) (λ taken. TakesBytes w conn count taken before bytes new) ((new ≡ w) × (bytes ≡ before)) r
+  pub answers : IsAnswered (shard_refusal w.state (Take conn count))
+      (λ taken. TakesBytes w conn count taken before bytes new) ((new ≡ w) × (bytes ≡ before)) r
 
-pub took_bytes : (shards next_index : ℕ) (w : AtWork) (held held' : Held) (conn count : ℕ) (before bytes : List ℕ) (r : Result ℕ (Failure ShardFault))
-    → w.state ≡ held.state → IsAtWork shards next_index w
-    → IsAnswered (shard_refusal held.state (Take conn count)) (λ taken. of_shard.TakesBytes held conn count taken before bytes held') (IsLeft held held' × (bytes ≡ before)) r
+pub took_bytes : (shards next_index : ℕ) (w : AtWork) (held held' : Held) (conn count : ℕ) (before bytes : List ℕ)
+    (r : Result ℕ (Failure ShardFault))
+    → w.state ≡ held.state
+    → IsAtWork shards next_index w
+    → IsAnswered (shard_refusal held.state (Take conn count))
+    (λ taken. of_shard.TakesBytes held conn count taken before bytes held') (IsLeft held held' × (bytes ≡ before)) r
     → TookBytes shards next_index w (with_state w held'.state) conn count before bytes r
 took_bytes shards next_index w held held' conn count before bytes r is i h = go r h
   where
     given : List Written
     given = take count (waits_for conn held.state.clients)
 
-    go : (r : Result ℕ (Failure ShardFault)) → IsAnswered (shard_refusal held.state (Take conn count)) (λ taken. of_shard.TakesBytes held conn count taken before bytes held') (IsLeft held held' × (bytes ≡ before)) r
+    go : (r : Result ℕ (Failure ShardFault))
+        → IsAnswered (shard_refusal held.state (Take conn count))
+        (λ taken. of_shard.TakesBytes held conn count taken before bytes held') (IsLeft held held' × (bytes ≡ before)) r
         → TookBytes shards next_index w (with_state w held'.state) conn count before bytes r
     go (Ok n) g =
-        let sub_called = client_call {T = Unit {0}} shards next_index w held held' (Take conn count) (λ _. Taken given) (Ok tt) refl is i (g.0, record { answered = refl; after = g.1.after }) in
-        record { works = sub_called.works; answers = (sub_called.answers.0, record { entries = given; does = sub_called.answers.1; told = g.1.told; bytes_are = g.1.bytes_are }) }
+        let sub_called = client_call {T = Unit {0}} shards next_index w held held' (Take conn count) (λ _. Taken given)
+        (Ok tt) refl is i (g.0, record { answered = refl; after = g.1.after }) in
+        record {
+          works = sub_called.works;
+          answers = (
+            sub_called.answers.0,
+            record { entries = given; does = sub_called.answers.1; told = g.1.told; bytes_are = g.1.bytes_are },
+          );
+        }
     go (Err (Refused why)) g =
-        let sub_called = client_call {T = Unit {0}} shards next_index w held held' (Take conn count) (λ _. Taken given) (Err (Refused why)) refl is i (g.0, g.1.0) in
+        let sub_called = client_call {T = Unit {0}} shards next_index w held held' (Take conn count) (λ _. Taken given)
+        (Err (Refused why)) refl is i (g.0, g.1.0) in
         record { works = sub_called.works; answers = (sub_called.answers.0, (sub_called.answers.1, g.1.1)) }
     go (Err OutOfMemory) g =
-        let sub_called = client_call {T = Unit {0}} shards next_index w held held' (Take conn count) (λ _. Taken given) (Err OutOfMemory) refl is i (g.0, g.1.0) in
+        let sub_called = client_call {T = Unit {0}} shards next_index w held held' (Take conn count) (λ _. Taken given)
+        (Err OutOfMemory) refl is i (g.0, g.1.0) in
         record { works = sub_called.works; answers = (sub_called.answers.0, (sub_called.answers.1, g.1.1)) }

@@ -22,10 +22,17 @@ pub record IsDropped (w : AtWork) (job : Job) : Type 0 where
   pub seen : HasTurn w.part
   pub handed : IsHanded w.state.finished w.state.hand w.waiting
 
-pub dropped_one : (shards next_index : ℕ) (w : AtWork) → IsAtWork shards next_index w → MayBegin w → (job : Job) × IsDropped w job
+pub dropped_one : (shards next_index : ℕ) (w : AtWork)
+    → IsAtWork shards next_index w
+    → MayBegin w
+    → (job : Job) × IsDropped w job
 dropped_one shards next_index w i may = go w.state.hand refl w.waiting refl
   where
-    go : (hand : Option Job) → w.state.hand ≡ hand → (waiting : Option Job) → w.waiting ≡ waiting → (job : Job) × IsDropped w job
+    go : (hand : Option Job)
+        → w.state.hand ≡ hand
+        → (waiting : Option Job)
+        → w.waiting ≡ waiting
+        → (job : Job) × IsDropped w job
     go (Some job) h (Some next) e = absurd (none-some job (sym (i.waits next e).alone ∙ h))
     go (Some job) h None e = let t = i.hand job h in (
       job,
@@ -37,22 +44,31 @@ dropped_one shards next_index w i may = go w.state.hand refl w.waiting refl
         handed = subst (λ o. IsHanded w.state.finished o w.waiting) (sym h) e;
       },
     )
-    go None h (Some job) e = let t = i.waits job e in (
-      job,
-      record {
-        job_is = λ k. option_or (h k) (e k);
-        turn = t.turn;
-        one = λ k. one_if (h k) + one_if (e k);
-        seen = (may h).1;
-        handed = subst (λ o. IsHanded w.state.finished o w.waiting) (sym h) (subst (λ o. IsHanded w.state.finished None o) (sym e) t.turn);
-      },
-    )
+    go None h (Some job) e =
+        let t = i.waits job e in (
+          job,
+          record {
+            job_is = λ k. option_or (h k) (e k);
+            turn = t.turn;
+            one = λ k. one_if (h k) + one_if (e k);
+            seen = (may h).1;
+            handed =
+                subst (λ o. IsHanded w.state.finished o w.waiting) (sym h)
+                (subst (λ o. IsHanded w.state.finished None o) (sym e) t.turn);
+          },
+        )
     go None h None e = absurd (true≢false (sym (may h).0 ∙ ap is_some e))
 
 abbrev pub with_dropped : AtWork → AtWork
-with_dropped w = record w { state = shard_after w.state (DropJob w.waiting); part = finished_one w.part; waiting = None }
+with_dropped w = record w {
+  state = shard_after w.state (DropJob w.waiting);
+  part = finished_one w.part;
+  waiting = None;
+}
 
-pub dropped_makes : (w : AtWork) (job : Job) → IsDropped w job → Makes w (step_of w.state (DropJob w.waiting) ∷ []) (with_dropped w)
+pub dropped_makes : (w : AtWork) (job : Job)
+    → IsDropped w job
+    → Makes w (step_of w.state (DropJob w.waiting) ∷ []) (with_dropped w)
 dropped_makes w job d = record {
   got = [];
   led = led w.state (shard_after w.state (DropJob w.waiting)) (DropJob w.waiting) refl d.handed refl;
@@ -64,33 +80,64 @@ dropped_makes w job d = record {
 }
 
 pub has_dropped : (w : AtWork) (job : Job) → IsDropped w job → HasDropped w job.turn (with_dropped w)
-has_dropped w job d = record { last = step_of w.state (DropJob w.waiting); job = w.waiting; makes = dropped_makes w job d; drops = refl; turn_is = d.turn }
+has_dropped w job d = record {
+  last = step_of w.state (DropJob w.waiting);
+  job = w.waiting;
+  makes = dropped_makes w job d;
+  drops = refl;
+  turn_is = d.turn;
+}
 
-pub dropped_at_work : (shards next_index : ℕ) (w : AtWork) (job : Job) → IsAtWork shards next_index w → IsDropped w job → IsAtWork shards 0 (with_dropped w)
+pub dropped_at_work : (shards next_index : ℕ) (w : AtWork) (job : Job)
+    → IsAtWork shards next_index w
+    → IsDropped w job
+    → IsAtWork shards 0 (with_dropped w)
 dropped_at_work shards next_index w job i d =
-    let done : shard_after w.state (DropJob w.waiting) ≡ done_with w.state (Some job) = ap (done_with w.state) d.job_is in
-    subst (λ s. IsAtWork shards 0 (record w { state = s; part = finished_one w.part; waiting = None })) (sym done) (record {
+    let done : shard_after w.state (DropJob w.waiting) ≡ done_with w.state (Some job) =
+    ap (done_with w.state) d.job_is in
+    subst (λ s. IsAtWork shards 0 (record w { state = s; part = finished_one w.part; waiting = None })) (sym done)
+    (record {
       index = refl;
       finished = ap (λ n. n + 1) i.finished ∙ sym d.turn;
       next = omega arith;
       hand = λ j e. absurd (none-some j e);
       waits = λ j e. absurd (none-some j e);
-      count = i.count ∙ sum w.state.finished (one_if w.state.hand) (one_if w.waiting) d.one ∙ (λ k. sym d.turn k + 0 + 0);
-      done = subst (λ s. HasDone shards (record w { state = s; part = finished_one w.part; waiting = None })) done (done_join shards w (with_dropped w) (step_of w.state (DropJob w.waiting) ∷ []) i.done (dropped_makes w job d));
+      count =
+          i.count ∙ sum w.state.finished (one_if w.state.hand) (one_if w.waiting) d.one ∙ (λ k. sym d.turn k + 0 + 0);
+      done =
+          subst (λ s. HasDone shards (record w { state = s; part = finished_one w.part; waiting = None })) done
+          (done_join shards w (with_dropped w) (step_of w.state (DropJob w.waiting) ∷ []) i.done
+          (dropped_makes w job d));
     })
   where
     sum : (f a b : ℕ) → a + b ≡ 1 → f + a + b ≡ f + 1 + 0 + 0
     sum f a b e = omega arith
 
 -- it is the job that the shard tells
-pub same_job : (s : State) (waits waiting : Option Job) (job told : Job) → option_or s.hand waits ≡ Some job → waiting ≡ waits → Dropped (Some told) ≡ shard_answer s (DropJob waiting) → job ≡ told
+pub same_job : (s : State) (waits waiting : Option Job) (job told : Job)
+    → option_or s.hand waits ≡ Some job
+    → waiting ≡ waits
+    → Dropped (Some told) ≡ shard_answer s (DropJob waiting)
+    → job ≡ told
 same_job s waits waiting job told is same answered =
-    let e : Dropped (Some told) ≡ Dropped (Some job) = answered ∙ (λ k. Dropped (option_or s.hand (same k))) ∙ ap (λ o. Dropped o) is in
+    let e : Dropped (Some told) ≡ Dropped (Some job) =
+    answered ∙ (λ k. Dropped (option_or s.hand (same k))) ∙ ap (λ o. Dropped o) is in
     let j : told ≡ job = cc (e) in
     sym j
 
-pub same_drop : (s : State) (waits waiting : Option Job) (job told : Job) → option_or s.hand waits ≡ Some job → waiting ≡ waits → Dropped (Some told) ≡ shard_answer s (DropJob waiting) → job.turn ≡ told.turn
-same_drop s waits waiting job told is same answered = ap (λ (x : Job). x.turn) (same_job s waits waiting job told is same answered)
+pub same_drop : (s : State) (waits waiting : Option Job) (job told : Job)
+    → option_or s.hand waits ≡ Some job
+    → waiting ≡ waits
+    → Dropped (Some told) ≡ shard_answer s (DropJob waiting)
+    → job.turn ≡ told.turn
+same_drop s waits waiting job told is same answered =
+    ap (λ (x : Job). x.turn) (same_job s waits waiting job told is same answered)
 
 pub dropped_join : (a b c : AtWork) (turn : ℕ) → Makes a [] b → HasDropped b turn c → HasDropped a turn c
-dropped_join a b c turn m d = record { last = d.last; job = d.job; makes = makes_join a b c [] (d.last ∷ []) m d.makes; drops = d.drops; turn_is = d.turn_is }
+dropped_join a b c turn m d = record {
+  last = d.last;
+  job = d.job;
+  makes = makes_join a b c [] (d.last ∷ []) m d.makes;
+  drops = d.drops;
+  turn_is = d.turn_is;
+}

@@ -10,6 +10,9 @@ loop-line-preserved g c =
     let at = c.line-item.is in
     let d = c.line-item.result in
     let lt : l.line-index < length l.lines = omega arith in (
-      map_set_same (λ (line : LaneSender). line.pushed) l.lines l.line-index c.begin.new.self d at (ap (λ (line : LaneSender). line.pushed) (c.begin.ensures ∙ sym (ap (λ (line : LaneSender). record line { taken = false }) at))) ∙ i.0,
-      rw add-one (All_take_set (λ (line : LaneSender). line.taken ≡ false) l.lines l.line-index c.begin.new.self lt i.1 (ap (λ (line : LaneSender). line.taken) c.begin.ensures)),
+      map_set_same (λ (line : LaneSender). line.pushed) l.lines l.line-index c.begin.new.self d at
+          (ap (λ (line : LaneSender). line.pushed)
+          (c.begin.ensures ∙ sym (ap (λ (line : LaneSender). record line { taken = false }) at))) ∙ i.0,
+      rw add-one (All_take_set (λ (line : LaneSender). line.taken ≡ false) l.lines l.line-index c.begin.new.self lt i.1
+          (ap (λ (line : LaneSender). line.taken) c.begin.ensures)),
     )

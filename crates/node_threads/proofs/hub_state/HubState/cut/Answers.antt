@@ -8,5 +8,10 @@ use Rattle.node_threads.proofs.hub_state.HubState.cut.Goals as goal
 pub invariant_of-self : goal.invariant_of-self
 invariant_of-self g c =
     let s = c.self.inside in
-    let i = c.self.invariant in
-    ((does_decided g.N.NodeName.race.shards (hub_at s.side s.seat.part s.finished s.outlet.jobs) c.cut.new.self (BySessions (Cut c.args.session)) (λ n. OfSessions (WasCut n)) (session_refusal s.side.server s.side.sessions (Cut c.args.session)) c.cut.result (quiet_sessions s.side (Cut c.args.session)) i.0 c.cut.ensures).keeps, i.1)
+    let i = c.self.invariant in (
+      (does_decided g.N.NodeName.race.shards (hub_at s.side s.seat.part s.finished s.outlet.jobs) c.cut.new.self
+          (BySessions (Cut c.args.session)) (λ n. OfSessions (WasCut n))
+          (session_refusal s.side.server s.side.sessions (Cut c.args.session)) c.cut.result
+          (quiet_sessions s.side (Cut c.args.session)) i.0 c.cut.ensures).keeps,
+      i.1,
+    )

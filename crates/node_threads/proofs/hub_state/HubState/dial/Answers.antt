@@ -8,5 +8,10 @@ use Rattle.node_threads.proofs.hub_state.HubState.dial.Goals as goal
 pub invariant_of-self : goal.invariant_of-self
 invariant_of-self g c =
     let s = c.self.inside in
-    let i = c.self.invariant in
-    ((does_call g.N.NodeName.race.shards (hub_at s.side s.seat.part s.finished s.outlet.jobs) c.dial.new.self (BySessions (Dial c.args.peer)) (λ n. OfSessions (Dialed n)) (session_refusal s.side.server s.side.sessions (Dial c.args.peer)) c.dial.result (quiet_sessions s.side (Dial c.args.peer)) i.0 c.dial.ensures).keeps, i.1)
+    let i = c.self.invariant in (
+      (does_call g.N.NodeName.race.shards (hub_at s.side s.seat.part s.finished s.outlet.jobs) c.dial.new.self
+          (BySessions (Dial c.args.peer)) (λ n. OfSessions (Dialed n))
+          (session_refusal s.side.server s.side.sessions (Dial c.args.peer)) c.dial.result
+          (quiet_sessions s.side (Dial c.args.peer)) i.0 c.dial.ensures).keeps,
+      i.1,
+    )

@@ -8,5 +8,14 @@ use Rattle.node_threads.proofs.hub_state.HubState.info.Goals as goal
 pub invariant_of-self : goal.invariant_of-self
 invariant_of-self g c =
     let s = c.self.inside in
-    let i = c.self.invariant in
-    ((does_call g.N.NodeName.race.shards (hub_at s.side s.seat.part s.finished s.outlet.jobs) c.info.new.self (BySessions (OnInfo c.args.session c.args.info.now (seen_name s.side c.args.info.now.server_name))) (λ n. OfSessions (KeptAfterInfo n.0.instead_of n.1)) (session_refusal s.side.server s.side.sessions (OnInfo c.args.session c.args.info.now (seen_name s.side c.args.info.now.server_name))) c.info.result (quiet_sessions s.side (OnInfo c.args.session c.args.info.now (seen_name s.side c.args.info.now.server_name))) i.0 c.info.ensures).keeps, i.1)
+    let i = c.self.invariant in (
+      (does_call g.N.NodeName.race.shards (hub_at s.side s.seat.part s.finished s.outlet.jobs) c.info.new.self
+          (BySessions (OnInfo c.args.session c.args.info.now (seen_name s.side c.args.info.now.server_name)))
+          (λ n. OfSessions (KeptAfterInfo n.0.instead_of n.1))
+          (session_refusal s.side.server s.side.sessions
+          (OnInfo c.args.session c.args.info.now (seen_name s.side c.args.info.now.server_name)))
+          c.info.result
+          (quiet_sessions s.side (OnInfo c.args.session c.args.info.now (seen_name s.side c.args.info.now.server_name)))
+          i.0 c.info.ensures).keeps,
+      i.1,
+    )

@@ -9,4 +9,5 @@ returns-clause-loads g c =
     let s = c.self.inside in
     let look = c.look-self-inside in
     subst (λ (o : AtHub). IsLooked g.N.NodeName.race.shards o.part look.result look.new.seat.part) c.self.view_is
-    (subst (λ (r : RaceId). IsLooked r.shards s.seat.part look.result look.new.seat.part) c.requires.race look.ensures.told)
+    (subst (λ (r : RaceId). IsLooked r.shards s.seat.part look.result look.new.seat.part) c.requires.race
+    look.ensures.told)

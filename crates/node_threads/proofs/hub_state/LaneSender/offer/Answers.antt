@@ -7,5 +7,7 @@ use Rattle.node_threads.proofs.hub_state.LaneSender.offer.Goals as goal
 pub push-requires : goal.push-requires
 push-requires g c =
     let s = c.self.inside in
-    let all = subst (λ (l : LaneSender). AreNumbered (l.pushed ++ jobs_owed l.taken (Some c.args.run.now))) (sym c.self.view_is) c.requires in
-    subst (λ r. AreNumberedBehind (length s.lane.pushed) r) (sym c.in-Ok.ensures) (owed_behind s.lane.pushed s.taken c.args.run.now c.if-self.false all)
+    let all = subst (λ (l : LaneSender). AreNumbered (l.pushed ++ jobs_owed l.taken (Some c.args.run.now)))
+    (sym c.self.view_is) c.requires in
+    subst (λ r. AreNumberedBehind (length s.lane.pushed) r) (sym c.in-Ok.ensures)
+    (owed_behind s.lane.pushed s.taken c.args.run.now c.if-self.false all)

@@ -8,4 +8,5 @@ pub invariant_of-self : goal.invariant_of-self
 invariant_of-self g c =
     let s = c.self.inside in
     subst (λ u. IsOutlet s.run u s.lines.items) (sym {A = List Job} c.push_reserved.ensures.items)
-    (outlet_more s.run s.unsent.items s.lines.items c.args.job c.self.invariant (c.requires.turn ∙ ap (λ (o : Outlet). length o.jobs + 1) (sym c.self.view_is)))
+    (outlet_more s.run s.unsent.items s.lines.items c.args.job c.self.invariant
+    (c.requires.turn ∙ ap (λ (o : Outlet). length o.jobs + 1) (sym c.self.view_is)))

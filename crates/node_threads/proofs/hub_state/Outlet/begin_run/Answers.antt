@@ -8,17 +8,29 @@ invariant_of-self-2 g c =
     let s = c.self.inside in
     let lines = c.begin_all.new.lines.items in
     let none : s.run ≡ None = none_of s.run c.is_some.result c.is_some.ensures c.if-is_some.false in
-    let run_is : c.in-Ok.run' ≡ s.unsent.items = (c.in-Ok.ensures).ok ∙ ap (λ v. v.items) c.replace-jobs.ensures.value in
-    let rest_is : c.replace-jobs.new.dest.items ≡ [] = ap (λ v. v.items) c.replace-jobs.ensures.after ∙ c.new.ensures.items in
-    let a = alike None (Some s.unsent.items) s.unsent.items [] s.lines.items lines (begun s.unsent.items s.lines.items lines c.begin_all.ensures.0 c.begin_all.ensures.1) (subst (λ r. IsOutlet r s.unsent.items s.lines.items) none c.self.invariant) in
-    subst (λ r. IsOutlet (Some r) c.replace-jobs.new.dest.items lines) (sym run_is) (subst (λ u. IsOutlet (Some s.unsent.items) u lines) (sym rest_is) a.0)
+    let run_is : c.in-Ok.run' ≡ s.unsent.items =
+    (c.in-Ok.ensures).ok ∙ ap (λ v. v.items) c.replace-jobs.ensures.value in
+    let rest_is : c.replace-jobs.new.dest.items ≡ [] =
+    ap (λ v. v.items) c.replace-jobs.ensures.after ∙ c.new.ensures.items in
+    let a = alike None (Some s.unsent.items) s.unsent.items [] s.lines.items lines
+    (begun s.unsent.items s.lines.items lines c.begin_all.ensures.0 c.begin_all.ensures.1)
+    (subst (λ r. IsOutlet r s.unsent.items s.lines.items) none c.self.invariant) in
+    subst (λ r. IsOutlet (Some r) c.replace-jobs.new.dest.items lines) (sym run_is)
+    (subst (λ u. IsOutlet (Some s.unsent.items) u lines) (sym rest_is) a.0)
 
 pub returns : goal.returns
 returns g c =
     let s = c.self.inside in
     let lines = c.begin_all.new.lines.items in
     let none : s.run ≡ None = none_of s.run c.is_some.result c.is_some.ensures c.if-is_some.false in
-    let run_is : c.in-Ok.run' ≡ s.unsent.items = (c.in-Ok.ensures).ok ∙ ap (λ v. v.items) c.replace-jobs.ensures.value in
-    let rest_is : c.replace-jobs.new.dest.items ≡ [] = ap (λ v. v.items) c.replace-jobs.ensures.after ∙ c.new.ensures.items in
-    let a = alike None (Some s.unsent.items) s.unsent.items [] s.lines.items lines (begun s.unsent.items s.lines.items lines c.begin_all.ensures.0 c.begin_all.ensures.1) (subst (λ r. IsOutlet r s.unsent.items s.lines.items) none c.self.invariant) in
-    (λ k. jobs_handed (Some (run_is k)) (rest_is k) lines) ∙ a.1 ∙ ap (λ r. jobs_handed r s.unsent.items s.lines.items) (sym none) ∙ ap (λ (o : Outlet). o.jobs) c.self.view_is
+    let run_is : c.in-Ok.run' ≡ s.unsent.items =
+    (c.in-Ok.ensures).ok ∙ ap (λ v. v.items) c.replace-jobs.ensures.value in
+    let rest_is : c.replace-jobs.new.dest.items ≡ [] =
+    ap (λ v. v.items) c.replace-jobs.ensures.after ∙ c.new.ensures.items in
+    let a = alike None (Some s.unsent.items) s.unsent.items [] s.lines.items lines
+    (begun s.unsent.items s.lines.items lines c.begin_all.ensures.0 c.begin_all.ensures.1)
+    (subst (λ r. IsOutlet r s.unsent.items s.lines.items) none c.self.invariant) in
+    (λ k. jobs_handed (Some (run_is k)) (rest_is k) lines)
+    ∙ a.1
+    ∙ ap (λ r. jobs_handed r s.unsent.items s.lines.items) (sym none)
+    ∙ ap (λ (o : Outlet). o.jobs) c.self.view_is

@@ -4,4 +4,7 @@ use Rattle.node_threads.proofs.Lanes.Outlets.{pushed_first}
 use Rattle.node_threads.proofs.hub_state.Outlet.into_lines.Goals as goal
 
 pub returns : goal.returns
-returns g c = let s = c.self.inside in subst (λ (o : Outlet). All (λ line. AreFirst line.pushed o.jobs) s.lines.items) c.self.view_is (pushed_first s.run s.unsent.items s.lines.items c.self.invariant)
+returns g c =
+    let s = c.self.inside in
+    subst (λ (o : Outlet). All (λ line. AreFirst line.pushed o.jobs) s.lines.items) c.self.view_is
+    (pushed_first s.run s.unsent.items s.lines.items c.self.invariant)

@@ -7,5 +7,11 @@ use Rattle.node_threads.proofs.shard_state.ShardState.attach.Goals as goal
 pub invariant_of-self : goal.invariant_of-self
 invariant_of-self g c =
     let s = c.self.inside in
-    let i = c.self.invariant in
-    ((client_call g.N.NodeName.race.shards s.next_index (seen_as s.shard.state s.seat.part s.lane.popped s.lane.hand s.waits) s.shard c.attach.new.self (Attach) (Attached) c.attach.result refl refl i.0 c.attach.ensures).works, i.1, i.2, i.3)
+    let i = c.self.invariant in (
+      (client_call g.N.NodeName.race.shards s.next_index
+          (seen_as s.shard.state s.seat.part s.lane.popped s.lane.hand s.waits) s.shard c.attach.new.self (Attach)
+          (Attached) c.attach.result refl refl i.0 c.attach.ensures).works,
+      i.1,
+      i.2,
+      i.3,
+    )

@@ -14,15 +14,26 @@ pub invariant_of-self : goal.invariant_of-self
 invariant_of-self g c =
     let s = c.self.inside in
     let i = c.self.invariant in
-    let same = ap (λ (h : Held). h.state) (handed_back (shard_refusal s.shard.state (Begin c.in_ok-job.job)) c.in_ok-job.job c.in-Err.field-0.job (IsLeft s.shard c.begin.new.self) c.in-Err.field-0.cause c.in-Err.ensures) in
-    (subst (λ t. IsAtWork g.N.NodeName.race.shards s.next_index (seen_as t s.seat.part s.lane.popped s.lane.hand s.waits)) (sym same) i.0, i.1, i.2, i.3)
+    let same = ap (λ (h : Held). h.state)
+    (handed_back (shard_refusal s.shard.state (Begin c.in_ok-job.job)) c.in_ok-job.job c.in-Err.field-0.job
+    (IsLeft s.shard c.begin.new.self) c.in-Err.field-0.cause c.in-Err.ensures) in (
+      subst (λ t.
+          IsAtWork g.N.NodeName.race.shards s.next_index (seen_as t s.seat.part s.lane.popped s.lane.hand s.waits))
+          (sym same) i.0,
+      i.1,
+      i.2,
+      i.3,
+    )
 
 pub returns-in-Err-clause-works : goal.returns-in-Err-clause-works
 returns-in-Err-clause-works g c =
     let s = c.self.inside in
     let w = seen_as s.shard.state s.seat.part s.lane.popped s.lane.hand s.waits in
-    let same = ap (λ (h : Held). h.state) (handed_back (shard_refusal s.shard.state (Begin c.in_ok-job.job)) c.in_ok-job.job c.in-Err.field-0.job (IsLeft s.shard c.begin.new.self) c.in-Err.field-0.cause c.in-Err.ensures) in
-    subst (λ t. HasWorked c.args.self.now (seen_as t s.seat.part s.lane.popped s.lane.hand s.waits)) (sym same) (subst (λ old. HasWorked old w) c.self.view_is (works_nothing w w (makes_nothing w)))
+    let same = ap (λ (h : Held). h.state)
+    (handed_back (shard_refusal s.shard.state (Begin c.in_ok-job.job)) c.in_ok-job.job c.in-Err.field-0.job
+    (IsLeft s.shard c.begin.new.self) c.in-Err.field-0.cause c.in-Err.ensures) in
+    subst (λ t. HasWorked c.args.self.now (seen_as t s.seat.part s.lane.popped s.lane.hand s.waits)) (sym same)
+    (subst (λ old. HasWorked old w) c.self.view_is (works_nothing w w (makes_nothing w)))
 
 pub invariant_of-self-in-Ok : goal.invariant_of-self-in-Ok
 invariant_of-self-in-Ok g c =
@@ -31,9 +42,12 @@ invariant_of-self-in-Ok g c =
     let w = seen_as s.shard.state s.seat.part s.lane.popped s.lane.hand s.waits in
     let free : s.shard.state.hand ≡ None = search rules in
     let may = subst MayBegin (sym c.self.view_is) c.requires free in
-    let waits = waits_for s.waits s.lane.hand c.in_ok-job.job c.in-Some.next.now may.0 c.in-Some.ensures c.in_ok-job.ensures in
+    let waits =
+    waits_for s.waits s.lane.hand c.in_ok-job.job c.in-Some.next.now may.0 c.in-Some.ensures c.in_ok-job.ensures in
     let after = ap (λ (h : Held). h.state) c.in-Ok.ensures.1.after in (
-      subst (λ t. IsAtWork g.N.NodeName.race.shards 0 (seen_as t s.seat.part s.lane.popped s.lane.hand false)) (sym after) (begun_at_work g.N.NodeName.race.shards s.next_index w c.in_ok-job.job i.0 waits may.1 c.in-Ok.ensures.0),
+      subst (λ t. IsAtWork g.N.NodeName.race.shards 0 (seen_as t s.seat.part s.lane.popped s.lane.hand false))
+          (sym after)
+          (begun_at_work g.N.NodeName.race.shards s.next_index w c.in_ok-job.job i.0 waits may.1 c.in-Ok.ensures.0),
       λ e. absurd (true≢false (sym e)),
       i.2,
       i.3,
@@ -45,10 +59,13 @@ returns-clause-works g c =
     let w = seen_as s.shard.state s.seat.part s.lane.popped s.lane.hand s.waits in
     let free : s.shard.state.hand ≡ None = search rules in
     let may = subst MayBegin (sym c.self.view_is) c.requires free in
-    let waits = waits_for s.waits s.lane.hand c.in_ok-job.job c.in-Some.next.now may.0 c.in-Some.ensures c.in_ok-job.ensures in
+    let waits =
+    waits_for s.waits s.lane.hand c.in_ok-job.job c.in-Some.next.now may.0 c.in-Some.ensures c.in_ok-job.ensures in
     let after = ap (λ (h : Held). h.state) c.in-Ok.ensures.1.after in
-    subst (λ old. HasWorked old (seen_as c.begin.new.self.state s.seat.part s.lane.popped s.lane.hand false)) c.self.view_is
-    (subst (λ t. HasWorked w (seen_as t s.seat.part s.lane.popped s.lane.hand false)) (sym after) (begun_works w c.in_ok-job.job waits c.in-Ok.ensures.0))
+    subst (λ old. HasWorked old (seen_as c.begin.new.self.state s.seat.part s.lane.popped s.lane.hand false))
+    c.self.view_is
+    (subst (λ t. HasWorked w (seen_as t s.seat.part s.lane.popped s.lane.hand false)) (sym after)
+    (begun_works w c.in_ok-job.job waits c.in-Ok.ensures.0))
 
 pub returns-then-is_some-clause-tells : goal.returns-then-is_some-clause-tells
 returns-then-is_some-clause-tells g c = tells_nothing c.args.self.now c.args.tape.now
@@ -60,8 +77,13 @@ pub returns-in-Err-clause-tells : goal.returns-in-Err-clause-tells
 returns-in-Err-clause-tells g c =
     let s = c.self.inside in
     let w = seen_as s.shard.state s.seat.part s.lane.popped s.lane.hand s.waits in
-    let same = ap (λ (h : Held). h.state) (handed_back (shard_refusal s.shard.state (Begin c.in_ok-job.job)) c.in_ok-job.job c.in-Err.field-0.job (IsLeft s.shard c.begin.new.self) c.in-Err.field-0.cause c.in-Err.ensures) in
-    subst (λ t. Tells c.args.self.now c.args.tape.now (seen_as t s.seat.part s.lane.popped s.lane.hand s.waits) c.args.tape.now) (sym same) (subst (λ old. Tells old c.args.tape.now w c.args.tape.now) c.self.view_is (tells_nothing w c.args.tape.now))
+    let same = ap (λ (h : Held). h.state)
+    (handed_back (shard_refusal s.shard.state (Begin c.in_ok-job.job)) c.in_ok-job.job c.in-Err.field-0.job
+    (IsLeft s.shard c.begin.new.self) c.in-Err.field-0.cause c.in-Err.ensures) in
+    subst (λ t.
+    Tells c.args.self.now c.args.tape.now (seen_as t s.seat.part s.lane.popped s.lane.hand s.waits) c.args.tape.now)
+    (sym same)
+    (subst (λ old. Tells old c.args.tape.now w c.args.tape.now) c.self.view_is (tells_nothing w c.args.tape.now))
 
 pub returns-clause-tells : goal.returns-clause-tells
 returns-clause-tells g c =
@@ -69,10 +91,15 @@ returns-clause-tells g c =
     let w = seen_as s.shard.state s.seat.part s.lane.popped s.lane.hand s.waits in
     let free : s.shard.state.hand ≡ None = search rules in
     let may = subst MayBegin (sym c.self.view_is) c.requires free in
-    let waits = waits_for s.waits s.lane.hand c.in_ok-job.job c.in-Some.next.now may.0 c.in-Some.ensures c.in_ok-job.ensures in
+    let waits =
+    waits_for s.waits s.lane.hand c.in_ok-job.job c.in-Some.next.now may.0 c.in-Some.ensures c.in_ok-job.ensures in
     let after = ap (λ (h : Held). h.state) c.in-Ok.ensures.1.after in
     let more = c.note_begin.new.tape in
-    let grows = subst (λ job. Grows c.args.tape.now (begin_entry job ∷ []) more) (sym c.in_ok-job.ensures) c.note_begin.ensures in
-    subst (λ old. Tells old c.args.tape.now (seen_as c.begin.new.self.state s.seat.part s.lane.popped s.lane.hand false) more) c.self.view_is
+    let grows =
+    subst (λ job. Grows c.args.tape.now (begin_entry job ∷ []) more) (sym c.in_ok-job.ensures) c.note_begin.ensures in
+    subst
+    (λ old. Tells old c.args.tape.now (seen_as c.begin.new.self.state s.seat.part s.lane.popped s.lane.hand false) more)
+    c.self.view_is
     (subst (λ t. Tells w c.args.tape.now (seen_as t s.seat.part s.lane.popped s.lane.hand false) more) (sym after)
-    (tells_one w _ (step_of w.state (Begin c.in_ok-job.job)) c.args.tape.now more (begun_makes w c.in_ok-job.job waits c.in-Ok.ensures.0) grows))
+    (tells_one w _ (step_of w.state (Begin c.in_ok-job.job)) c.args.tape.now more
+    (begun_makes w c.in_ok-job.job waits c.in-Ok.ensures.0) grows))

@@ -7,5 +7,12 @@ use Rattle.node_threads.proofs.shard_state.ShardState.reply.Goals as goal
 pub invariant_of-self : goal.invariant_of-self
 invariant_of-self g c =
     let s = c.self.inside in
-    let i = c.self.invariant in
-    ((client_call g.N.NodeName.race.shards s.next_index (seen_as s.shard.state s.seat.part s.lane.popped s.lane.hand s.waits) s.shard c.reply.new.self (Reply c.args.conn c.args.frame.now) (λ closed. Replied closed.shut closed.ended.items) c.reply.result refl refl i.0 c.reply.ensures).works, i.1, i.2, i.3)
+    let i = c.self.invariant in (
+      (client_call g.N.NodeName.race.shards s.next_index
+          (seen_as s.shard.state s.seat.part s.lane.popped s.lane.hand s.waits) s.shard c.reply.new.self
+          (Reply c.args.conn c.args.frame.now) (λ closed. Replied closed.shut closed.ended.items) c.reply.result refl
+          refl i.0 c.reply.ensures).works,
+      i.1,
+      i.2,
+      i.3,
+    )

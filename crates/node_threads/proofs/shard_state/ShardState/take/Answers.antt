@@ -7,5 +7,12 @@ use Rattle.node_threads.proofs.shard_state.ShardState.take.Goals as goal
 pub invariant_of-self : goal.invariant_of-self
 invariant_of-self g c =
     let s = c.self.inside in
-    let i = c.self.invariant in
-    ((client_call g.N.NodeName.race.shards s.next_index (seen_as s.shard.state s.seat.part s.lane.popped s.lane.hand s.waits) s.shard c.take.new.self (Take c.args.conn c.args.count) (λ entries. Taken entries.items) c.take.result refl refl i.0 c.take.ensures).works, i.1, i.2, i.3)
+    let i = c.self.invariant in (
+      (client_call g.N.NodeName.race.shards s.next_index
+          (seen_as s.shard.state s.seat.part s.lane.popped s.lane.hand s.waits) s.shard c.take.new.self
+          (Take c.args.conn c.args.count) (λ entries. Taken entries.items) c.take.result refl refl i.0
+          c.take.ensures).works,
+      i.1,
+      i.2,
+      i.3,
+    )

@@ -8,5 +8,12 @@ use Rattle.node_threads.proofs.shard_state.ShardState.unsubscribe.Goals as goal
 pub invariant_of-self : goal.invariant_of-self
 invariant_of-self g c =
     let s = c.self.inside in
-    let i = c.self.invariant in
-    ((client_decided g.N.NodeName.race.shards s.next_index (seen_as s.shard.state s.seat.part s.lane.popped s.lane.hand s.waits) s.shard c.unsubscribe.new.self (Unsubscribe c.args.conn c.args.sid.now c.args.max) (λ ended. Unsubscribed (option_to_list ended)) c.unsubscribe.result refl refl i.0 c.unsubscribe.ensures), i.1, i.2, i.3)
+    let i = c.self.invariant in (
+      (client_decided g.N.NodeName.race.shards s.next_index
+          (seen_as s.shard.state s.seat.part s.lane.popped s.lane.hand s.waits) s.shard c.unsubscribe.new.self
+          (Unsubscribe c.args.conn c.args.sid.now c.args.max) (λ ended. Unsubscribed (option_to_list ended))
+          c.unsubscribe.result refl refl i.0 c.unsubscribe.ensures),
+      i.1,
+      i.2,
+      i.3,
+    )
