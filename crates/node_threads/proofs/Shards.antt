@@ -4,5 +4,6 @@ pub mod Clients
 pub mod Working
 pub mod Runs
 pub mod Claims
+pub mod Placing
 pub mod Drops
 pub mod Telling

@@ -3,9 +3,10 @@ use Rattle.std.specs.Prelude.{◌≡◌, ℕ, ◌+◌, Bool, not, List, [], ◌�
 use Rattle.sub_table.specs.declared.Subscription.{Subscription}
 use Rattle.subj.specs.declared.jobs.Job.{Job}
 use Rattle.shard_core.specs.Owed.{candidate_of}
-use Rattle.shard_core.specs.ShardEvents.{Event, Attach, Subscribe, Unsubscribe, Reply, SetHeaders, Shut, Detach, Take, Begin, Claim, End, DropJob, Drain, Collect, Answer}
+use Rattle.shard_core.specs.ShardEvents.{Event, Attach, Subscribe, Unsubscribe, Reply, SetHeaders, Shut, Detach, Take, Begin, Claim, End, DropJob, Drain, Collect, Answer, Attached, Opened, AlreadyOpen, Unsubscribed, Replied, HeadersSet, WasShut, Detached, Taken, Began, Nobody, Lost, Won, Finished, Dropped, Drains, Collected}
 use Rattle.shard_core.specs.ShardSteps.{IsDone}
 use Rattle.shard_core.specs.Shards.{State}
+use Rattle.shard_core.specs.declared.calls.Placed.{Placed}
 
 -- an event that was done: the shard before it, and the answer
 pub record Done : Type 0 where
@@ -69,3 +70,29 @@ claimed_in s Collect as_won = []
 abbrev pub claims_of : Bool → List Done → List (ℕ × ℕ)
 claims_of as_won [] = []
 claims_of as_won (d ∷ earlier) = claims_of as_won earlier ++ claimed_in d.before d.event as_won
+
+-- ---- the messages that were put, in order
+
+abbrev pub placed_in : Answer → List Placed
+placed_in (Attached conn) = []
+placed_in (Opened sub) = []
+placed_in AlreadyOpen = []
+placed_in (Unsubscribed ended) = []
+placed_in (Replied shut ended) = []
+placed_in HeadersSet = []
+placed_in (WasShut ended) = []
+placed_in (Detached ended) = []
+placed_in (Taken entries) = []
+placed_in (Began placed closed ended) = placed
+placed_in Nobody = []
+placed_in Lost = []
+placed_in (Won sub placed ended) = placed ∷ []
+placed_in Finished = []
+placed_in (Dropped job) = []
+placed_in Drains = []
+placed_in (Collected deltas) = []
+
+-- by all steps
+abbrev pub placed_by : List Done → List Placed
+placed_by [] = []
+placed_by (d ∷ earlier) = placed_by earlier ++ placed_in d.answer

@@ -1,11 +1,13 @@
 -- What is kept in writing of what was done under a lock.
-use Rattle.std.specs.Prelude.{◌≡◌, ℕ, Bool, List, [], ◌∷◌, ◌++◌, length, Option, Some, None}
+use Rattle.std.specs.Prelude.{◌≡◌, ℕ, Bool, List, [], ◌∷◌, ◌++◌, length, slice_get, Option, Some, None}
 use Rattle.subj.specs.declared.keys.Delta.{Delta}
 use Rattle.subj.specs.declared.jobs.Job.{Job}
 use Rattle.shard_core.specs.ShardEvents as of_shard
+use Rattle.shard_core.specs.declared.calls.Placed.{Placed}
 use Rattle.shard_core.specs.declared.faults.ShardFault.{ShardFault}
 use Rattle.node_threads.specs.AtWork.{AtWork, Makes, at_start}
 use Rattle.node_threads.specs.Logs.{Made, Did, WasRefused, Logs, steps_in}
+use Rattle.node_threads.specs.Steps.{placed_in}
 use Rattle.node_threads.specs.declared.shard_entries.ShardEvent.{ShardEvent}
 use Rattle.node_threads.specs.declared.shard_entries.ShardEvent.TheVariants as event
 use Rattle.node_threads.specs.declared.shard_entries.ShardTold.{ShardTold}
@@ -67,11 +69,11 @@ deltas_in (of_shard.Collected deltas) = deltas
 abbrev pub entry : ShardEvent → ShardTold → ShardEntry
 entry event told = record { event = event; told = told }
 
-abbrev pub begin_entry : Job → ShardEntry
-begin_entry job = entry (event.Begin job) told.Work
+abbrev pub begin_entry : Job → List Placed → ShardEntry
+begin_entry job placed = entry (event.Begin job placed) told.Work
 
-abbrev pub claim_entry : ℕ → Bool → ShardEntry
-claim_entry index won = entry (event.Claim index won) told.Work
+abbrev pub claim_entry : ℕ → Bool → Option Placed → ShardEntry
+claim_entry index won placed = entry (event.Claim index won placed) told.Work
 
 abbrev pub end_entry : ShardEntry
 end_entry = entry event.End told.Work
@@ -79,8 +81,7 @@ end_entry = entry event.End told.Work
 abbrev pub drop_entry : Option Job → Option Job → ShardEntry
 drop_entry waiting job = entry (event.DropJob waiting) (told.Dropped (turn_of job))
 
--- the parts of a turn are written without an answer, since the event says all that was not known
--- before
+-- the parts of a turn are written without an answer, but with the messages that they placed
 abbrev pub entry_of : of_shard.Event → of_shard.Answer → ShardEntry
 entry_of of_shard.Attach answer = entry event.Attach (told_of answer)
 entry_of (of_shard.Subscribe conn key sid) answer =
@@ -92,8 +93,8 @@ entry_of (of_shard.SetHeaders conn on) answer = entry (event.SetHeaders conn on)
 entry_of (of_shard.Shut conn text) answer = entry (event.Shut conn text) (told_of answer)
 entry_of (of_shard.Detach conn) answer = entry (event.Detach conn) (told_of answer)
 entry_of (of_shard.Take conn count) answer = entry (event.Take conn count) (told_of answer)
-entry_of (of_shard.Begin job) answer = begin_entry job
-entry_of (of_shard.Claim index won) answer = claim_entry index won
+entry_of (of_shard.Begin job) answer = begin_entry job (placed_in answer)
+entry_of (of_shard.Claim index won) answer = claim_entry index won (slice_get (placed_in answer) 0)
 entry_of of_shard.End answer = end_entry
 entry_of (of_shard.DropJob waiting) answer = entry (event.DropJob waiting) (told_of answer)
 entry_of of_shard.Drain answer = entry event.Drain (told_of answer)

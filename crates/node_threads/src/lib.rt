@@ -28,7 +28,7 @@ pub use gates::{Gate, Open};
 pub use hub_state::{HubState, LaneSender};
 pub use laws::sides_are_parts;
 pub use node_name::NodeName;
-pub use shard_entries::{Deltas, ShardEntry, ShardEvent, ShardTold};
+pub use shard_entries::{Deltas, Placements, ShardEntry, ShardEvent, ShardTold};
 pub use shard_state::ShardState;
 pub use tape::Tape;
 pub use turned::Turned;

@@ -5,14 +5,14 @@ ghost use Rattle.shard_core.specs.ShardEvents.{DropJob};
 ghost use Rattle.shard_core.specs.declared.faults.ShardFault.TheVariants.{NoJob};
 ghost use Rattle.node_threads.specs.Tapes.{Grows, begin_entry, claim_entry, drop_entry, end_entry, refused_entry};
 
-use crate::shard_entries::{ShardEntry, ShardEvent, ShardTold};
+use crate::shard_entries::{Placements, ShardEntry, ShardEvent, ShardTold};
 use crate::tape::Tape;
-use shard_core::ShardFault;
+use shard_core::{Placed, ShardFault};
 use subj::Job;
 
-/// That this job was begun.
-pub(crate) fn note_begin(tape: &mut Tape<ShardEntry>, job: &Job)
-    ensures { Grows tape.old (begin_entry job.now ∷ []) tape.new }
+/// That this job was begun, and which messages were placed then.
+pub(crate) fn note_begin(tape: &mut Tape<ShardEntry>, job: &Job, placed: Placements)
+    ensures { Grows tape.old (begin_entry job.now placed ∷ []) tape.new }
 {
     if !tape.is_kept() {
         return;
@@ -22,20 +22,20 @@ pub(crate) fn note_begin(tape: &mut Tape<ShardEntry>, job: &Job)
         return;
     };
     tape.note(ShardEntry {
-        event: ShardEvent::Begin(job),
+        event: ShardEvent::Begin { job, placed },
         told: ShardTold::Work,
     });
 }
 
-/// That the queue name of this index was tried, and whether it was won.
-pub(crate) fn note_claim(tape: &mut Tape<ShardEntry>, index: u64, won: bool)
-    ensures { Grows tape.old (claim_entry index won ∷ []) tape.new }
+/// That the queue name of this index was tried, whether it was won, and which message was placed then.
+pub(crate) fn note_claim(tape: &mut Tape<ShardEntry>, index: u64, won: bool, placed: Option<Placed>)
+    ensures { Grows tape.old (claim_entry index won placed ∷ []) tape.new }
 {
     if !tape.is_kept() {
         return;
     }
     tape.note(ShardEntry {
-        event: ShardEvent::Claim { index, won },
+        event: ShardEvent::Claim { index, won, placed },
         told: ShardTold::Work,
     });
 }

@@ -1,9 +1,9 @@
 //! What is kept in writing of what a shard did.
 
-ghost use Rattle.std.specs.Prelude.{◌≡◌, IfOk};
+ghost use Rattle.std.specs.Prelude.{◌≡◌, IfOk, take};
 
 use client_frames::{ErrText, ReplyFrame};
-use shard_core::ShardFault;
+use shard_core::{Begun, Placed, ShardFault};
 use std::alloc::{AllocError, Global};
 use std::marker::Model;
 use subj::{ConnId, Delta, Job, Key, Sid, SubId, Turn};
@@ -48,7 +48,43 @@ impl Deltas {
     }
 }
 
-/// What a shard was asked. (Profile.)
+/// Messages that were placed, in order: each with its connection, its bytes, and whether the connection took headers.
+///
+/// Seen as their list.
+#[derive(Drop)]
+pub struct Placements {
+    items: Vec<Placed>,
+}
+
+impl Model for Placements {
+    ghost use Rattle.std.specs.Prelude.{List};
+    ghost use Rattle.shard_core.specs.declared.calls.Placed.{Placed};
+
+    ghost Value = { List Placed };
+
+    ghost view = { λ s. s.items.items };
+}
+
+impl Placements {
+    /// The messages of what a begin put: they stand in front of the last lines of the connections that it shut.
+    pub(crate) fn of(begun: Begun) -> Placements
+        ensures { result ≡ take begun.given begun.put.items }
+    {
+        let Begun { given, put, .. } = begun;
+        let mut items = put;
+        items.truncate(given);
+        Placements { items }
+    }
+
+    /// All of them.
+    pub fn as_slice(&self) -> &[Placed]
+        ensures { result.now ≡ self.now }
+    {
+        self.items.as_slice()
+    }
+}
+
+/// What a shard was asked; and of a part of a turn and a collect what came of it. (Profile.)
 #[derive(Drop)]
 pub enum ShardEvent {
     /// Makes a connection.
@@ -89,12 +125,17 @@ pub enum ShardEvent {
         conn: ConnId,
         count: usize,
     },
-    /// Begins the job.
-    Begin(Job),
-    /// Claims the queue name of this index of the job in hand, from 0; and whether the claim was made and won.
+    /// Begins the job; and the messages that were placed for subscriptions without a queue name.
+    Begin {
+        job: Job,
+        placed: Placements,
+    },
+    /// Claims the queue name of this index of the job in hand, from 0; whether the claim was made and won, and the
+    /// message that was placed then.
     Claim {
         index: u64,
         won: bool,
+        placed: Option<Placed>,
     },
     /// Ends the job in hand.
     End,

@@ -16,7 +16,7 @@ ghost use Rattle.node_threads.specs.Turns.{ClaimsOne, DeliversFirst, HasEnded, H
 use crate::gates::Gate;
 use crate::node_name::NodeName;
 use crate::noting::{note_begin, note_claim, note_drop, note_end, note_no_job};
-use crate::shard_entries::ShardEntry;
+use crate::shard_entries::{Placements, ShardEntry};
 use crate::tape::Tape;
 use crate::turned::Turned;
 use claim_cells::{Cells, ShardSeat};
@@ -24,7 +24,7 @@ use client_frames::{ErrText, ReplyFrame};
 use job_lane::LaneOut;
 use outbox::Entry;
 use shard_core::{
-    Closed, DirtyConns, Shard, ShardFault, Subscribed, claims_are_whole, runs_are_worked,
+    Candidate, Closed, DirtyConns, Shard, ShardFault, Subscribed, claims_are_whole, runs_are_worked,
 };
 use std::alloc::{AllocError, Global};
 use std::marker::{Model, PhantomData};
@@ -392,10 +392,10 @@ impl<T: SubTable, N: NodeName> ShardState<T, N> {
             unreachable!()
         };
         let job = next.try_clone()?;
-        match self.shard.begin(job, false) {
+        match self.shard.begin(job, tape.is_kept()) {
             Err(_) => Err(AllocError),
-            Ok(_) => {
-                note_begin(tape, next);
+            Ok(begun) => {
+                note_begin(tape, next, Placements::of(begun));
                 self.waits = false;
                 self.next_index = 0;
                 Ok(())
@@ -448,22 +448,23 @@ impl<T: SubTable, N: NodeName> ShardState<T, N> {
         };
         let turn = job.turn;
         let _names = job.queues.as_slice();
-        match self.shard.candidate(index, false) {
+        match self.shard.candidate(index, tape.is_kept()) {
             Err(_) => Err(AllocError),
             Ok(None) => {
                 self.next_index = index + 1;
-                note_claim(tape, index, false);
+                note_claim(tape, index, false, None);
                 Ok(())
             }
-            Ok(Some(_)) => {
+            Ok(Some(candidate)) => {
                 tell(gate, &self.seat, turn, index);
                 self.next_index = index + 1;
                 if !cells.claim(&mut self.seat, index) {
-                    note_claim(tape, index, false);
+                    note_claim(tape, index, false, None);
                     return Ok(());
                 }
                 let _ended = self.shard.place(index);
-                note_claim(tape, index, true);
+                let Candidate { placed, .. } = candidate;
+                note_claim(tape, index, true, placed);
                 Ok(())
             }
         }

@@ -25,8 +25,7 @@ use Rattle.shard_core.specs.declared.faults.ShardFault.TheVariants.{BadIndex, Jo
 use Rattle.shard_core.proofs.Closings.Causes.{one, subs_go_on, subs_stay_held}
 use Rattle.shard_core.proofs.Closings.Fixed.{fixed}
 use Rattle.shard_core.proofs.Steps.LawEvents.{candidate_is, walk_gives}
-use Rattle.node_threads.specs.Steps.{Done, Leads, claimed_in, claims_of, job_in, jobs_of, pair_of}
-use Rattle.thread_law.specs.Once.{placed_in, placed_by}
+use Rattle.node_threads.specs.Steps.{Done, Leads, claimed_in, claims_of, job_in, jobs_of, pair_of, placed_in, placed_by}
 
 -- ---- what is put: of which job, for which queue name or none, and for which subscription
 

@@ -13,8 +13,8 @@ use Rattle.outbox.specs.declared.entries.Tag.TheVariants.{Msg}
 use Rattle.shard_core.specs.Owed.{mode_of}
 use Rattle.shard_core.specs.declared.calls.Placed.{Placed}
 use Rattle.node_threads.specs.Steps as of_shard
-use Rattle.node_threads.specs.Steps.{claims_of}
-use Rattle.thread_law.specs.Once.{Precedes, IsSource, IsPut, AreOnce, LegalRunsAreOnce, placed_by}
+use Rattle.node_threads.specs.Steps.{claims_of, placed_by}
+use Rattle.thread_law.specs.Once.{Precedes, IsSource, IsPut, AreOnce, LegalRunsAreOnce, puts_of}
 use Rattle.thread_law.specs.Runs.{HubRun, ShardRun, IsShardRun, IsLegal, claims_won}
 use Rattle.thread_law.proofs.Gives.{Gave, Given, Later, Other, gave_by, given_run, tag_at, tags_run}
 use Rattle.thread_law.proofs.Names.{names_apart}
@@ -119,20 +119,23 @@ module _ (shards : ℕ) (hub : HubRun) (runs : List ShardRun) (legal : IsLegal s
     is : IsTag (k + 1) gave id sub mode
     known : In gave.job hub.end.issued
 
-  put : (k i : ℕ) (id : PubId) (sub : SubId) (mode : Mode) → IsPut runs k i id sub mode → Put k i id sub mode
+  put : (k i : ℕ) (id : PubId) (sub : SubId) (mode : Mode) → IsPut (puts_of runs) k i id sub mode → Put k i id sub mode
   put k i id sub mode p =
-      let tagged = subst (λ l. At l i p.put.entry.tag) (tags k p.run p.of_shard)
-      (at_map (λ (z : Placed). z.entry.tag) (placed_by p.run.steps) i p.put p.there) in
-      let from = at_unmap (tag_at (k + 1)) (gave_by p.run.steps) i p.put.entry.tag tagged in
+      let u = at_unmap (λ (r : ShardRun). placed_by r.steps) runs k p.by_shard p.of_shard in
+      let run = u.0 in
+      let there = subst (λ l. At l i p.put) (sym u.2) p.there in
+      let tagged = subst (λ l. At l i p.put.entry.tag) (tags k run u.1)
+      (at_map (λ (z : Placed). z.entry.tag) (placed_by run.steps) i p.put there) in
+      let from = at_unmap (tag_at (k + 1)) (gave_by run.steps) i p.put.entry.tag tagged in
       record {
-        run = p.run;
-        at = p.of_shard;
+        run = run;
+        at = u.1;
         gave = from.0;
         there = from.1;
         is = is_tag (k + 1) from.0 id sub mode (from.2 ∙ p.tag);
         known =
-            issued k p.run p.of_shard from.0.job
-            ((given k p.run p.of_shard).each from.0 (at_in (gave_by p.run.steps) i from.0 from.1)).known;
+            issued k run u.1 from.0.job
+            ((given k run u.1).each from.0 (at_in (gave_by run.steps) i from.0 from.1)).known;
       }
 
   -- of one run the second stands at the place of the first, where neither may stand before the other
@@ -157,8 +160,8 @@ module _ (shards : ℕ) (hub : HubRun) (runs : List ShardRun) (legal : IsLegal s
   same_run s t j id sub mode r at e q = at_same runs t q.run r q.at (subst (λ n. At runs n r) e at)
 
   members : (s t i j : ℕ) (id : PubId) (u v : SubId) (name : List ℕ)
-      → IsPut runs s i id u (Queue name)
-      → IsPut runs t j id v (Queue name)
+      → IsPut (puts_of runs) s i id u (Queue name)
+      → IsPut (puts_of runs) t j id v (Queue name)
       → (s ≡ t) × (i ≡ j)
   members s t i j id u v name a b = (
     place,
@@ -197,8 +200,8 @@ module _ (shards : ℕ) (hub : HubRun) (runs : List ShardRun) (legal : IsLegal s
           (legal.once s t here.0 there.0 p.run q.run (p.gave.job.turn, x.0) p.at q.at here.1 there.1).0
 
   plain : (s t i j : ℕ) (id : PubId) (u : SubId)
-      → IsPut runs s i id u Plain
-      → IsPut runs t j id u Plain
+      → IsPut (puts_of runs) s i id u Plain
+      → IsPut (puts_of runs) t j id u Plain
       → (s ≡ t) × (i ≡ j)
   plain s t i j id u a b = (
     place,
@@ -224,8 +227,8 @@ module _ (shards : ℕ) (hub : HubRun) (runs : List ShardRun) (legal : IsLegal s
       place = let x = p.is.shard_is in let y = q.is.shard_is in omega arith
 
   rising : (s i j : ℕ) (a b : PubId) (u : SubId) (m n : Mode)
-      → IsPut runs s i a u m
-      → IsPut runs s j b u n
+      → IsPut (puts_of runs) s i a u m
+      → IsPut (puts_of runs) s j b u n
       → i < j
       → Precedes a b
   rising s i j a b u m n x y lt =
@@ -262,10 +265,12 @@ module _ (shards : ℕ) (hub : HubRun) (runs : List ShardRun) (legal : IsLegal s
   once = record {
     ids = pairs_weaker Follows (λ (a b : Job). Precedes a.id b.id) hub.end.issued (λ a b _ _ f. f.id) issued_in_order;
     sources = sources;
-    members = members;
-    plain = plain;
-    own = λ s i id u mode a. (put s i id u mode a).is.shard_is;
-    rising = rising;
+    puts = record {
+      members = members;
+      plain = plain;
+      own = λ s i id u mode a. (put s i id u mode a).is.shard_is;
+      rising = rising;
+    };
   }
 
 pub legal_once : LegalRunsAreOnce

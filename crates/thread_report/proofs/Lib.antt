@@ -1,4 +1,5 @@
 pub mod Naming
+pub mod Placing
 pub mod Owing
 pub mod Orders
 pub mod Telling

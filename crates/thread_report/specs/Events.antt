@@ -25,7 +25,7 @@ event_of_hub (hub_event.Info session info) = OnInfo session info
 event_of_hub (hub_event.Connect session connect) = OnConnect session connect
 event_of_hub (hub_event.Cut session) = Own (own.CutSession session)
 
--- of the shard of this number: without jobs, deltas, and who won a claim
+-- of the shard of this number: without jobs, deltas, who won a claim, and what was placed
 abbrev pub event_of_shard : ℕ → ShardEvent → NodeEvent
 event_of_shard shard shard_event.Attach = Own (own.AtShard shard work.Attach)
 event_of_shard shard (shard_event.Subscribe conn key sid) =
@@ -38,8 +38,9 @@ event_of_shard shard (shard_event.SetHeaders conn on) =
 event_of_shard shard (shard_event.Shut conn text) = Own (own.OfConn conn (of_conn.Shut text))
 event_of_shard shard (shard_event.Detach conn) = Own (own.OfConn conn of_conn.Detach)
 event_of_shard shard (shard_event.Take conn count) = Own (own.OfConn conn (of_conn.Take count))
-event_of_shard shard (shard_event.Begin job) = Own (own.AtShard shard work.Begin)
-event_of_shard shard (shard_event.Claim index won) = Own (own.AtShard shard (work.Claim index))
+event_of_shard shard (shard_event.Begin job placed) = Own (own.AtShard shard work.Begin)
+event_of_shard shard (shard_event.Claim index won placed) =
+    Own (own.AtShard shard (work.Claim index))
 event_of_shard shard shard_event.End = Own (own.AtShard shard work.End)
 event_of_shard shard (shard_event.DropJob job) = Own (own.AtShard shard work.DropJob)
 event_of_shard shard shard_event.Drain = Own (own.AtShard shard work.DrainShard)

@@ -4,6 +4,8 @@ pub mod Events
 pub mod Owed
 -- which publications the hub gave to the shards
 pub mod Issued
+-- which messages the shards placed
+pub mod Placements
 -- the deltas that shards hand to the hub
 pub mod Handing
 -- what the end of a server on threads tells

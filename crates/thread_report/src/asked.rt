@@ -156,7 +156,7 @@ fn is_work(shard: u64, work: ShardWork, asked: &ShardEvent) -> bool
 {
     match (work, asked) {
         (ShardWork::Attach, ShardEvent::Attach)
-        | (ShardWork::Begin, ShardEvent::Begin(_))
+        | (ShardWork::Begin, ShardEvent::Begin { .. })
         | (ShardWork::End, ShardEvent::End)
         | (ShardWork::DropJob, ShardEvent::DropJob(_))
         | (ShardWork::DrainShard, ShardEvent::Drain) => true,

@@ -11,7 +11,8 @@ ghost use Rattle.node_threads.specs.declared.shard_entries.ShardEntry.{ShardEntr
 ghost use Rattle.thread_report.specs.Handing.{AreHanded};
 ghost use Rattle.thread_report.specs.Issued.{AreIssued, issued_on as jobs_on};
 ghost use Rattle.thread_report.specs.Owed.{AreTold};
-ghost use Rattle.thread_law.specs.Once.{AreOnce};
+ghost use Rattle.thread_report.specs.Placements.{ArePlaced, all_placements};
+ghost use Rattle.thread_law.specs.Once.{AreOnce, ArePutOnce};
 ghost use Rattle.thread_law.specs.Runs.{HubRun, IsLegal, ShardRun};
 ghost use Rattle.thread_report.specs.Reports.{AreClosed, IsKept, IsOver, IsWritten, Tells};
 
@@ -44,7 +45,7 @@ pub struct Report {
     /// All that the hub and the sessions did and refused, in order; nothing where nothing was written down.
     pub hub: Vec<HubEntry>,
     /// All that each shard did and refused, in order, that of shard 1 first; nothing of each where nothing was
-    /// written down.
+    /// written down. A begin and a claim have the messages that they placed.
     pub worked: Vec<Vec<ShardEntry>>,
 }
 
@@ -187,7 +188,8 @@ fn reported<T: SubTable, N: NodeName, R: Wait>(
         × Tells hub runs report.issued report.finished
         × IsWritten report.kept N.race.shards hub runs report.hub.items
         (map (λ entries. entries.items) report.worked.items)
-        × AreIssued report.kept hub report.jobs.items) }
+        × AreIssued report.kept hub report.jobs.items
+        × ArePlaced report.kept runs (map (λ entries. entries.items) report.worked.items)) }
 {
     let keep = node.keeps_tapes();
     let (hub, shards) = node.into_locked();
@@ -254,6 +256,8 @@ pub fn finish<T: SubTable, N: NodeName, R: Wait>(
         report.kept ≡ true
         → AreTold passes.items report.hub.items
         (map (λ entries. entries.items) report.worked.items)) }
+    ensures once { IfOk result (λ report.
+        ArePutOnce (all_placements (map (λ entries. entries.items) report.worked.items))) }
     ensures legal { IfOk result (λ report.
         (hub : HubRun)
         × (runs : List ShardRun)
@@ -262,7 +266,8 @@ pub fn finish<T: SubTable, N: NodeName, R: Wait>(
         × Tells hub runs report.issued report.finished
         × IsWritten report.kept N.race.shards hub runs report.hub.items
         (map (λ entries. entries.items) report.worked.items)
-        × AreIssued report.kept hub report.jobs.items) }
+        × AreIssued report.kept hub report.jobs.items
+        × ArePlaced report.kept runs (map (λ entries. entries.items) report.worked.items)) }
 {
     let report = reported(rt, alloc, node)?;
     compare(

@@ -702,15 +702,16 @@ fn end_count(tape: &[ShardEntry]) -> usize {
         .count()
 }
 
-/// Whether the shard won the first queue name of the job of this turn.
+/// Whether the shard won the first queue name of the job of this turn, and placed a message for it.
 fn has_won(tape: &[ShardEntry], number: u64) -> bool {
     let mut in_hand = 0;
     for entry in tape {
         match &entry.event {
-            ShardEvent::Begin(job) => in_hand = job.turn.get(),
+            ShardEvent::Begin { job, .. } => in_hand = job.turn.get(),
             ShardEvent::Claim {
                 index: 0,
                 won: true,
+                placed: Some(_),
             } if in_hand == number => return true,
             _ => {}
         }

@@ -148,32 +148,32 @@ claim_at_work shards next_index w index won s part i m c =
 
 -- ---- the three outcomes
 
-chooses_none : (s : State) (index : ℕ) (job : Job)
+chooses_none : (copies : Bool) (s : State) (index : ℕ) (job : Job)
     → s.hand ≡ Some job
-    → None ≡ told_of false s.shard s.clients s.hand (candidate_of s s.hand index)
+    → None ≡ told_of copies s.shard s.clients s.hand (candidate_of s s.hand index)
     → candidate_of s s.hand index ≡ None
-chooses_none s index job hand e =
+chooses_none copies s index job hand e =
     go (candidate_of s s.hand index) refl
-    (e ∙ ap (λ h. told_of false s.shard s.clients h (candidate_of s s.hand index)) hand)
+    (e ∙ ap (λ h. told_of copies s.shard s.clients h (candidate_of s s.hand index)) hand)
   where
     go : (c : Option Subscription)
         → candidate_of s s.hand index ≡ c
-        → None ≡ told_of false s.shard s.clients (Some job) c
+        → None ≡ told_of copies s.shard s.clients (Some job) c
         → candidate_of s s.hand index ≡ None
     go None is e = is
     go (Some sub) is e = absurd (none-some _ e)
 
-chooses_some : (s : State) (index : ℕ) (job : Job) (told : Candidate)
+chooses_some : (copies : Bool) (s : State) (index : ℕ) (job : Job) (told : Candidate)
     → s.hand ≡ Some job
-    → Some told ≡ told_of false s.shard s.clients s.hand (candidate_of s s.hand index)
+    → Some told ≡ told_of copies s.shard s.clients s.hand (candidate_of s s.hand index)
     → (sub : Subscription) × (candidate_of s s.hand index ≡ Some sub)
-chooses_some s index job told hand e =
+chooses_some copies s index job told hand e =
     go (candidate_of s s.hand index) refl
-    (e ∙ ap (λ h. told_of false s.shard s.clients h (candidate_of s s.hand index)) hand)
+    (e ∙ ap (λ h. told_of copies s.shard s.clients h (candidate_of s s.hand index)) hand)
   where
     go : (c : Option Subscription)
         → candidate_of s s.hand index ≡ c
-        → Some told ≡ told_of false s.shard s.clients (Some job) c
+        → Some told ≡ told_of copies s.shard s.clients (Some job) c
         → (sub : Subscription) × (candidate_of s s.hand index ≡ Some sub)
     go None is e = absurd (none-some told (sym e))
     go (Some sub) is e = (sub, is)
@@ -185,29 +185,29 @@ tried_only s t e = record {
   next = ap (λ (x : State). x.next_index) e;
 }
 
-mid_tried : (old mid : Held) (index : ℕ) (found : Option Candidate)
-    → Chooses false old index found mid
+mid_tried : (copies : Bool) (old mid : Held) (index : ℕ) (found : Option Candidate)
+    → Chooses copies old index found mid
     → mid.state ≡ after_try old.state
-mid_tried old mid index found c = ap (λ (h : Held). h.state) c.after
+mid_tried copies old mid index found c = ap (λ (h : Held). h.state) c.after
 
 pub claims_nobody : ClaimsAreWhole
-    → (w : AtWork) (old mid : Held) (index : ℕ) (found : Option Candidate)
+    → (copies : Bool) (w : AtWork) (old mid : Held) (index : ℕ) (found : Option Candidate)
     → w.state ≡ old.state
     → MayClaim index w.state
     → w.part.next ≤ index
-    → Chooses false old index found mid
+    → Chooses copies old index found mid
     → found ≡ None
     → Claims index false w mid.state w.part
-claims_nobody law w old mid index found is m low c none =
+claims_nobody law copies w old mid index found is m low c none =
     let free = may_claim w.state index m in
-    let whole = law false old mid index found (subst (λ s. shard_refusal s (Claim index false) ≡ None) is free) c in
-    let nobody : candidate_of w.state w.state.hand index ≡ None = chooses_none w.state index m.job m.hand
-    (subst (λ (s : State). None ≡ told_of false s.shard s.clients s.hand (candidate_of s s.hand index)) (sym is)
+    let whole = law copies old mid index found (subst (λ s. shard_refusal s (Claim index false) ≡ None) is free) c in
+    let nobody : candidate_of w.state w.state.hand index ≡ None = chooses_none copies w.state index m.job m.hand
+    (subst (λ (s : State). None ≡ told_of copies s.shard s.clients s.hand (candidate_of s s.hand index)) (sym is)
     (sym none ∙ c.told)) in
     record {
       free = free;
       after = whole.not_won ∙ ap (λ s. shard_after s (Claim index false)) (sym is);
-      tried = tried_only w.state mid.state (mid_tried old mid index found c ∙ ap after_try (sym is));
+      tried = tried_only w.state mid.state (mid_tried copies old mid index found c ∙ ap after_try (sym is));
       shard = refl;
       loads = refl;
       finished = refl;
@@ -218,24 +218,25 @@ claims_nobody law w old mid index found is m low c none =
     }
 
 pub claims_lost : ClaimsAreWhole
-    → (w : AtWork) (old mid : Held) (index : ℕ) (found : Option Candidate) (told : Candidate) (part : ShardPart)
+    → (copies : Bool) (w : AtWork) (old mid : Held) (index : ℕ) (found : Option Candidate) (told : Candidate)
+    (part : ShardPart)
     → w.state ≡ old.state
     → w.part.finished ≡ w.state.finished
     → MayClaim index w.state
-    → Chooses false old index found mid
+    → Chooses copies old index found mid
     → found ≡ Some told
     → part ≡ lost_by w.part index
     → Claims index false w mid.state part
-claims_lost law w old mid index found told part is finished m c some lost =
+claims_lost law copies w old mid index found told part is finished m c some lost =
     let free = may_claim w.state index m in
-    let whole = law false old mid index found (subst (λ s. shard_refusal s (Claim index false) ≡ None) is free) c in
-    let chosen = chooses_some w.state index m.job told m.hand
-    (subst (λ (s : State). Some told ≡ told_of false s.shard s.clients s.hand (candidate_of s s.hand index)) (sym is)
+    let whole = law copies old mid index found (subst (λ s. shard_refusal s (Claim index false) ≡ None) is free) c in
+    let chosen = chooses_some copies w.state index m.job told m.hand
+    (subst (λ (s : State). Some told ≡ told_of copies s.shard s.clients s.hand (candidate_of s s.hand index)) (sym is)
     (sym some ∙ c.told)) in
     record {
       free = free;
       after = whole.not_won ∙ ap (λ s. shard_after s (Claim index false)) (sym is);
-      tried = tried_only w.state mid.state (mid_tried old mid index found c ∙ ap after_try (sym is));
+      tried = tried_only w.state mid.state (mid_tried copies old mid index found c ∙ ap after_try (sym is));
       shard = ap (λ (p : ShardPart). p.shard) lost;
       loads = ap (λ (p : ShardPart). p.loads) lost;
       finished = ap (λ (p : ShardPart). p.finished) lost;
@@ -255,20 +256,21 @@ won_tried s index job sub hand chosen =
     (record { hand = refl; finished = refl; next = refl })
 
 pub claims_won : ClaimsAreWhole
-    → (w : AtWork) (old mid new : Held) (index : ℕ) (found : Option Candidate) (told : Candidate) (part : ShardPart)
+    → (copies : Bool) (w : AtWork) (old mid new : Held) (index : ℕ) (found : Option Candidate) (told : Candidate)
+    (part : ShardPart)
     → w.state ≡ old.state
     → w.part.finished ≡ w.state.finished
     → MayClaim index w.state
-    → Chooses false old index found mid
+    → Chooses copies old index found mid
     → found ≡ Some told
     → part ≡ won_by w.part index
     → new ≡ held_at_rest (after_put_chosen mid.state mid.state.hand mid.chosen)
     → Claims index true w new.state part
-claims_won law w old mid new index found told part is finished m c some won placed =
+claims_won law copies w old mid new index found told part is finished m c some won placed =
     let free = may_claim w.state index m in
-    let whole = law false old mid index found (subst (λ s. shard_refusal s (Claim index false) ≡ None) is free) c in
-    let chosen = chooses_some w.state index m.job told m.hand
-    (subst (λ (s : State). Some told ≡ told_of false s.shard s.clients s.hand (candidate_of s s.hand index)) (sym is)
+    let whole = law copies old mid index found (subst (λ s. shard_refusal s (Claim index false) ≡ None) is free) c in
+    let chosen = chooses_some copies w.state index m.job told m.hand
+    (subst (λ (s : State). Some told ≡ told_of copies s.shard s.clients s.hand (candidate_of s s.hand index)) (sym is)
     (sym some ∙ c.told)) in
     let stands : is_some mid.chosen ≡ true = ap (λ (h : Held). is_some h.chosen) c.after
     ∙ ap (λ (s : State). is_some (candidate_of s s.hand index)) (sym is) ∙ ap is_some chosen.1 in

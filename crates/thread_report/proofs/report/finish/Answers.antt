@@ -1,6 +1,7 @@
 use Rattle.std.proofs.Common.{map, subst}
 use Rattle.thread_report.specs.Handing.{AreHanded}
 use Rattle.thread_report.specs.Owed.{AreTold}
+use Rattle.thread_report.proofs.Placing.{are_once}
 use Rattle.thread_report.proofs.report.finish.Goals as goal
 
 pub returns-clause-handed : goal.returns-clause-handed
@@ -19,3 +20,9 @@ returns-clause-told g c = λ on.
     c.as_slice.ensures.value
     (subst (λ worked. AreTold passes c.as_slice.result.now (map (λ entries. entries.items) worked))
     c.as_slice-2.ensures.value told)
+
+pub returns-clause-once : goal.returns-clause-once
+returns-clause-once g c =
+    let report = c.in_ok-report.report in
+    let legal = c.in_ok-report.ensures.legal in
+    are_once report.kept legal.1 (map (λ entries. entries.items) report.worked.items) legal.7 legal.3.puts

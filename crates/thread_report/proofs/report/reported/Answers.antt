@@ -4,6 +4,7 @@ use Rattle.node_threads.specs.AtHub.{AtHub}
 use Rattle.thread_node.specs.HubTapes.{IsHubTape}
 use Rattle.thread_report.specs.Issued.{turn_and_id}
 use Rattle.thread_report.proofs.Naming.{names_all}
+use Rattle.thread_report.proofs.Placing.{are_placed}
 use Rattle.thread_report.proofs.Legal.{hub_run, is_written, legal, tells}
 use Rattle.thread_report.proofs.report.reported.Goals as goal
 
@@ -41,4 +42,5 @@ returns-clause-legal g c =
       ap (map (turn_and_id w.side.server)) c.in_ok-hub.ensures.jobs
           ∙ names_all kept w.side.server by_hub.log w.side w.issued entries by_hub.logged
           (run_is_legal.hub_run.gave ∙ ap jobs_of by_hub.steps_are) by_hub.tape_is,
+      are_placed kept race.shards closed.0 tapes closed.3,
     )

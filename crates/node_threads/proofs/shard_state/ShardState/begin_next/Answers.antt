@@ -6,6 +6,7 @@ use Rattle.node_threads.specs.AtWork.{IsAtWork, seen_as}
 use Rattle.node_threads.specs.Tapes.{Grows, Tells, begin_entry}
 use Rattle.node_threads.specs.Turns.{HasWorked, MayBegin}
 use Rattle.node_threads.proofs.Shards.Joining.{makes_nothing, works_nothing}
+use Rattle.node_threads.proofs.Shards.Placing.{begun_grows}
 use Rattle.node_threads.proofs.Shards.Telling.{tells_nothing, tells_one}
 use Rattle.node_threads.proofs.Shards.Working.{begun_at_work, begun_makes, begun_works, handed_back, step_of, waits_for}
 use Rattle.node_threads.proofs.shard_state.ShardState.begin_next.Goals as goal
@@ -95,8 +96,10 @@ returns-clause-tells g c =
     waits_for s.waits s.lane.hand c.in_ok-job.job c.in-Some.next.now may.0 c.in-Some.ensures c.in_ok-job.ensures in
     let after = ap (λ (h : Held). h.state) c.in-Ok.ensures.1.after in
     let more = c.note_begin.new.tape in
-    let grows =
-    subst (λ job. Grows c.args.tape.now (begin_entry job ∷ []) more) (sym c.in_ok-job.ensures) c.note_begin.ensures in
+    let grows = begun_grows c.is_kept.result w.state c.in_ok-job.job c.in-Ok.begun c.of.result c.args.tape.now more
+    c.is_kept.ensures.kept c.in-Ok.ensures.1.answered c.of.ensures
+    (subst (λ job. Grows c.args.tape.now (begin_entry job c.of.result ∷ []) more) (sym c.in_ok-job.ensures)
+    c.note_begin.ensures) in
     subst
     (λ old. Tells old c.args.tape.now (seen_as c.begin.new.self.state s.seat.part s.lane.popped s.lane.hand false) more)
     c.self.view_is

@@ -7,6 +7,7 @@ use Rattle.shard_core.specs.ShardSteps.{shard_refusal}
 use Rattle.node_threads.specs.Tapes.{Tells}
 use Rattle.node_threads.specs.Turns.{MayClaim, ClaimsOne}
 use Rattle.node_threads.proofs.Shards.Claims.{seat_claims, claims_nobody, claims_lost, claims_won, claim_at_work, claim_makes, claim_works}
+use Rattle.node_threads.proofs.Shards.Placing.{lost_grows, won_grows}
 use Rattle.node_threads.proofs.Shards.Telling.{refused_same, tells_nothing, tells_one}
 use Rattle.node_threads.proofs.Shards.Working.{step_of}
 use Rattle.node_threads.proofs.shard_state.ShardState.claim.Goals as goal
@@ -20,8 +21,8 @@ invariant_of-self-in-Ok-None g c =
     let low =
     (seat_claims g.N.NodeName.race.shards s.next_index w c.args.index c.in-Some.job.now i.0 m (sym c.in-Some.ensures)
     c.as_slice-names.ensures.valid).1 in
-    let did = claims_nobody c.claims_are_whole.ensures w s.shard c.candidate.new.self c.args.index c.in-Ok-None.field-0
-    refl m low c.in-Ok-None.ensures.1 c.in-Ok-None.field-0-is in (
+    let did = claims_nobody c.claims_are_whole.ensures c.is_kept.result w s.shard c.candidate.new.self c.args.index
+    c.in-Ok-None.field-0 refl m low c.in-Ok-None.ensures.1 c.in-Ok-None.field-0-is in (
       claim_at_work g.N.NodeName.race.shards s.next_index w c.args.index false c.candidate.new.self.state s.seat.part
           i.0 m did,
       i.1,
@@ -38,8 +39,8 @@ returns-in-Ok-None-clause-ok g c =
     let low =
     (seat_claims g.N.NodeName.race.shards s.next_index w c.args.index c.in-Some.job.now i.0 m (sym c.in-Some.ensures)
     c.as_slice-names.ensures.valid).1 in
-    let did = claims_nobody c.claims_are_whole.ensures w s.shard c.candidate.new.self c.args.index c.in-Ok-None.field-0
-    refl m low c.in-Ok-None.ensures.1 c.in-Ok-None.field-0-is in
+    let did = claims_nobody c.claims_are_whole.ensures c.is_kept.result w s.shard c.candidate.new.self c.args.index
+    c.in-Ok-None.field-0 refl m low c.in-Ok-None.ensures.1 c.in-Ok-None.field-0-is in
     subst (λ old.
     ClaimsOne c.args.index old (seen_as c.candidate.new.self.state s.seat.part s.lane.popped s.lane.hand s.waits))
     c.self.view_is (claim_works w c.args.index false c.candidate.new.self.state s.seat.part m did)
@@ -51,9 +52,9 @@ invariant_of-self-then-not-claim g c =
     let w = seen_as s.shard.state s.seat.part s.lane.popped s.lane.hand s.waits in
     let m = subst (λ (o : AtWork). MayClaim c.args.index o.state) (sym c.self.view_is) c.requires.next in
     let lost = c.claim.ensures.lost c.if-not-claim.true in
-    let did = claims_lost c.claims_are_whole.ensures w s.shard c.candidate.new.self c.args.index c.in-Ok-Some.field-0
-    c.in-Ok-Some.field-0-0 c.claim.new.seat.part refl i.0.finished m c.in-Ok-Some.ensures.1 c.in-Ok-Some.field-0-is
-    lost in (
+    let did = claims_lost c.claims_are_whole.ensures c.is_kept.result w s.shard c.candidate.new.self c.args.index
+    c.in-Ok-Some.field-0 c.in-Ok-Some.candidate c.claim.new.seat.part refl i.0.finished m c.in-Ok-Some.ensures.1
+    c.in-Ok-Some.field-0-is lost in (
       claim_at_work g.N.NodeName.race.shards s.next_index w c.args.index false c.candidate.new.self.state
           c.claim.new.seat.part i.0 m did,
       i.1,
@@ -68,9 +69,9 @@ returns-then-not-claim-clause-ok g c =
     let w = seen_as s.shard.state s.seat.part s.lane.popped s.lane.hand s.waits in
     let m = subst (λ (o : AtWork). MayClaim c.args.index o.state) (sym c.self.view_is) c.requires.next in
     let lost = c.claim.ensures.lost c.if-not-claim.true in
-    let did = claims_lost c.claims_are_whole.ensures w s.shard c.candidate.new.self c.args.index c.in-Ok-Some.field-0
-    c.in-Ok-Some.field-0-0 c.claim.new.seat.part refl i.0.finished m c.in-Ok-Some.ensures.1 c.in-Ok-Some.field-0-is
-    lost in
+    let did = claims_lost c.claims_are_whole.ensures c.is_kept.result w s.shard c.candidate.new.self c.args.index
+    c.in-Ok-Some.field-0 c.in-Ok-Some.candidate c.claim.new.seat.part refl i.0.finished m c.in-Ok-Some.ensures.1
+    c.in-Ok-Some.field-0-is lost in
     subst (λ old.
     ClaimsOne c.args.index old
     (seen_as c.candidate.new.self.state c.claim.new.seat.part s.lane.popped s.lane.hand s.waits))
@@ -83,9 +84,9 @@ invariant_of-self-in-Ok-Some g c =
     let w = seen_as s.shard.state s.seat.part s.lane.popped s.lane.hand s.waits in
     let m = subst (λ (o : AtWork). MayClaim c.args.index o.state) (sym c.self.view_is) c.requires.next in
     let won = c.claim.ensures.won c.if-not-claim.false in
-    let did = claims_won c.claims_are_whole.ensures w s.shard c.candidate.new.self c.place-ended.new.self c.args.index
-    c.in-Ok-Some.field-0 c.in-Ok-Some.field-0-0 c.claim.new.seat.part refl i.0.finished m c.in-Ok-Some.ensures.1
-    c.in-Ok-Some.field-0-is won c.place-ended.ensures.placed in (
+    let did = claims_won c.claims_are_whole.ensures c.is_kept.result w s.shard c.candidate.new.self
+    c.place-ended.new.self c.args.index c.in-Ok-Some.field-0 c.in-Ok-Some.candidate c.claim.new.seat.part refl
+    i.0.finished m c.in-Ok-Some.ensures.1 c.in-Ok-Some.field-0-is won c.place-ended.ensures.placed in (
       claim_at_work g.N.NodeName.race.shards s.next_index w c.args.index true c.place-ended.new.self.state
           c.claim.new.seat.part i.0 m did,
       i.1,
@@ -93,16 +94,16 @@ invariant_of-self-in-Ok-Some g c =
       (λ k. slice_get g.N.NodeName.lanes ((won k).shard - 1)) ∙ i.3,
     )
 
-pub returns-clause-ok : goal.returns-clause-ok
-returns-clause-ok g c =
+pub returns-else-not-claim-clause-ok : goal.returns-else-not-claim-clause-ok
+returns-else-not-claim-clause-ok g c =
     let s = c.self.inside in
     let i = c.self.invariant in
     let w = seen_as s.shard.state s.seat.part s.lane.popped s.lane.hand s.waits in
     let m = subst (λ (o : AtWork). MayClaim c.args.index o.state) (sym c.self.view_is) c.requires.next in
     let won = c.claim.ensures.won c.if-not-claim.false in
-    let did = claims_won c.claims_are_whole.ensures w s.shard c.candidate.new.self c.place-ended.new.self c.args.index
-    c.in-Ok-Some.field-0 c.in-Ok-Some.field-0-0 c.claim.new.seat.part refl i.0.finished m c.in-Ok-Some.ensures.1
-    c.in-Ok-Some.field-0-is won c.place-ended.ensures.placed in
+    let did = claims_won c.claims_are_whole.ensures c.is_kept.result w s.shard c.candidate.new.self
+    c.place-ended.new.self c.args.index c.in-Ok-Some.field-0 c.in-Ok-Some.candidate c.claim.new.seat.part refl
+    i.0.finished m c.in-Ok-Some.ensures.1 c.in-Ok-Some.field-0-is won c.place-ended.ensures.placed in
     subst (λ old.
     ClaimsOne c.args.index old
     (seen_as c.place-ended.new.self.state c.claim.new.seat.part s.lane.popped s.lane.hand s.waits))
@@ -129,12 +130,13 @@ returns-in-Ok-None-clause-tells g c =
     let low =
     (seat_claims g.N.NodeName.race.shards s.next_index w c.args.index c.in-Some.job.now i.0 m (sym c.in-Some.ensures)
     c.as_slice-names.ensures.valid).1 in
-    let did = claims_nobody c.claims_are_whole.ensures w s.shard c.candidate.new.self c.args.index c.in-Ok-None.field-0
-    refl m low c.in-Ok-None.ensures.1 c.in-Ok-None.field-0-is in
+    let did = claims_nobody c.claims_are_whole.ensures c.is_kept.result w s.shard c.candidate.new.self c.args.index
+    c.in-Ok-None.field-0 refl m low c.in-Ok-None.ensures.1 c.in-Ok-None.field-0-is in
     let new = seen_as c.candidate.new.self.state s.seat.part s.lane.popped s.lane.hand s.waits in
     subst (λ old. Tells old c.args.tape.now new c.note_claim.new.tape) c.self.view_is
     (tells_one w new (step_of w.state (Claim c.args.index false)) c.args.tape.now c.note_claim.new.tape
-    (claim_makes w c.args.index false c.candidate.new.self.state s.seat.part did) c.note_claim.ensures)
+    (claim_makes w c.args.index false c.candidate.new.self.state s.seat.part did)
+    (lost_grows w.state c.args.index c.args.tape.now c.note_claim.new.tape c.note_claim.ensures))
 
 pub returns-then-not-claim-clause-tells : goal.returns-then-not-claim-clause-tells
 returns-then-not-claim-clause-tells g c =
@@ -143,27 +145,30 @@ returns-then-not-claim-clause-tells g c =
     let w = seen_as s.shard.state s.seat.part s.lane.popped s.lane.hand s.waits in
     let m = subst (λ (o : AtWork). MayClaim c.args.index o.state) (sym c.self.view_is) c.requires.next in
     let lost = c.claim.ensures.lost c.if-not-claim.true in
-    let did = claims_lost c.claims_are_whole.ensures w s.shard c.candidate.new.self c.args.index c.in-Ok-Some.field-0
-    c.in-Ok-Some.field-0-0 c.claim.new.seat.part refl i.0.finished m c.in-Ok-Some.ensures.1 c.in-Ok-Some.field-0-is
-    lost in
+    let did = claims_lost c.claims_are_whole.ensures c.is_kept.result w s.shard c.candidate.new.self c.args.index
+    c.in-Ok-Some.field-0 c.in-Ok-Some.candidate c.claim.new.seat.part refl i.0.finished m c.in-Ok-Some.ensures.1
+    c.in-Ok-Some.field-0-is lost in
     let new = seen_as c.candidate.new.self.state c.claim.new.seat.part s.lane.popped s.lane.hand s.waits in
     subst (λ old. Tells old c.args.tape.now new c.note_claim-then-not-claim.new.tape) c.self.view_is
     (tells_one w new (step_of w.state (Claim c.args.index false)) c.args.tape.now c.note_claim-then-not-claim.new.tape
     (claim_makes w c.args.index false c.candidate.new.self.state c.claim.new.seat.part did)
-    c.note_claim-then-not-claim.ensures)
+    (lost_grows w.state c.args.index c.args.tape.now c.note_claim-then-not-claim.new.tape
+    c.note_claim-then-not-claim.ensures))
 
-pub returns-clause-tells : goal.returns-clause-tells
-returns-clause-tells g c =
+pub returns-else-not-claim-clause-tells : goal.returns-else-not-claim-clause-tells
+returns-else-not-claim-clause-tells g c =
     let s = c.self.inside in
     let i = c.self.invariant in
     let w = seen_as s.shard.state s.seat.part s.lane.popped s.lane.hand s.waits in
     let m = subst (λ (o : AtWork). MayClaim c.args.index o.state) (sym c.self.view_is) c.requires.next in
     let won = c.claim.ensures.won c.if-not-claim.false in
-    let did = claims_won c.claims_are_whole.ensures w s.shard c.candidate.new.self c.place-ended.new.self c.args.index
-    c.in-Ok-Some.field-0 c.in-Ok-Some.field-0-0 c.claim.new.seat.part refl i.0.finished m c.in-Ok-Some.ensures.1
-    c.in-Ok-Some.field-0-is won c.place-ended.ensures.placed in
+    let did = claims_won c.claims_are_whole.ensures c.is_kept.result w s.shard c.candidate.new.self
+    c.place-ended.new.self c.args.index c.in-Ok-Some.field-0 c.in-Ok-Some.candidate c.claim.new.seat.part refl
+    i.0.finished m c.in-Ok-Some.ensures.1 c.in-Ok-Some.field-0-is won c.place-ended.ensures.placed in
     let new = seen_as c.place-ended.new.self.state c.claim.new.seat.part s.lane.popped s.lane.hand s.waits in
     subst (λ old. Tells old c.args.tape.now new c.note_claim-in-Ok-Some.new.tape) c.self.view_is
     (tells_one w new (step_of w.state (Claim c.args.index true)) c.args.tape.now c.note_claim-in-Ok-Some.new.tape
     (claim_makes w c.args.index true c.place-ended.new.self.state c.claim.new.seat.part did)
-    c.note_claim-in-Ok-Some.ensures)
+    (won_grows c.is_kept.result w.state c.args.index c.in-Ok-Some.candidate c.args.tape.now
+    c.note_claim-in-Ok-Some.new.tape c.is_kept.ensures.kept (sym c.in-Ok-Some.field-0-is ∙ c.in-Ok-Some.ensures.1.told)
+    c.note_claim-in-Ok-Some.ensures))
