@@ -26,12 +26,12 @@ abbrev pub turn_of : Option Job → Option ℕ
 turn_of None = None
 turn_of (Some job) = Some job.turn
 
--- of an answer in numbers
+-- of an answer: each value that takes no memory, and of a list how long it is
 abbrev pub told_of : of_shard.Answer → ShardTold
 told_of (of_shard.Attached conn) = told.Attached conn
 told_of (of_shard.Opened sub) = told.Opened sub
 told_of of_shard.AlreadyOpen = told.AlreadyOpen
-told_of (of_shard.Unsubscribed ended) = told.Unsubscribed (length ended)
+told_of (of_shard.Unsubscribed ended) = told.Unsubscribed (slice_get ended 0)
 told_of (of_shard.Replied shut ended) = told.Replied shut (length ended)
 told_of of_shard.HeadersSet = told.HeadersSet
 told_of (of_shard.WasShut ended) = told.WasShut (length ended)

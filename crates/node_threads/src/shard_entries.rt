@@ -147,7 +147,7 @@ pub enum ShardEvent {
     Collect(Deltas),
 }
 
-/// What a shard answered, in numbers. (Profile.)
+/// What a shard answered: values, and of lists how long they are. (Profile.)
 ///
 /// The rest of an answer is not kept: it follows from the events.
 #[derive(Clone, Copy, PartialEq, Eq)]
@@ -158,8 +158,8 @@ pub enum ShardTold {
     Opened(SubId),
     /// The connection has a subscription of this id open.
     AlreadyOpen,
-    /// How many subscriptions an `UNSUB` closed, 0 or 1.
-    Unsubscribed(usize),
+    /// The subscription that an `UNSUB` closed.
+    Unsubscribed(Option<SubId>),
     /// A reply: whether the connection was shut for want of room, and how many subscriptions closed.
     Replied { shut: bool, ended: usize },
     /// Whether a connection takes headers was set.

@@ -1,6 +1,7 @@
 -- What is kept in writing stays what was done.
 use Rattle.std.proofs.Common.{◌≡◌, ℕ, Bool, true, false, cond, List, [], ◌∷◌, ◌++◌, Option, Some, None, Result, Ok, Err, refl, sym, ap, ◌∙◌, subst, append-nil, inl, ⊎_elim}
 use Rattle.std.specs.Option.{option_map}
+use Rattle.std.specs.Prelude.{option_to_list, slice_get}
 use Rattle.subj.specs.Answers.{IsAnswered, IsDecided}
 use Rattle.subj.specs.Servers.{ServerIdentity}
 use Rattle.subj.specs.declared.failures.Failure.{Failure}
@@ -72,6 +73,11 @@ pub tape_does : (shards : ℕ) (w v : AtWork) (e : of_shard.Event) (answer : of_
     → IsTape shards v more
 tape_does shards w v e answer tape more t c free d g =
     tape_more shards w v tape more t (client_tells w v e answer tape more c free d g)
+
+-- what there is at most once, of a list of it
+pub first_of_one : {X : Type 0} (o : Option X) → o ≡ slice_get (option_to_list o) 0
+first_of_one None = refl
+first_of_one (Some x) = refl
 
 -- a call that takes no memory, as one that may
 pub answered_so : {R T : Type 0} (cause : Option R) (done : T → Type 0) (same : Type 0) (result : Result T R)

@@ -50,8 +50,8 @@ steps_in [] = []
 steps_in (Did d ∷ earlier) = d ∷ steps_in earlier
 steps_in (WasRefused before event why ∷ earlier) = steps_in earlier
 
--- ---- an answer in numbers; a peer comes up and is cut by its session alone, whose answer tells of
--- it
+-- ---- an answer, its lists in numbers; a peer comes up and is cut by its session alone, whose
+-- answer tells of it
 
 abbrev pub told_by_hub : of_hub.Answer → List HubTold
 told_by_hub (of_hub.Issued job frames) = told.Issued job.turn (length frames) ∷ []
@@ -66,8 +66,9 @@ told_by_hub (of_hub.Taken frames) = told.Taken (length frames) ∷ []
 
 abbrev pub told_by_sessions : of_sessions.Answer → List HubTold
 told_by_sessions (of_sessions.Dialed session) = told.Dialed session ∷ []
-told_by_sessions (of_sessions.Accepted session info) = told.Accepted session ∷ []
-told_by_sessions (of_sessions.KeptAfterInfo instead_of connect) = told.KeptAfterInfo instead_of ∷ []
+told_by_sessions (of_sessions.Accepted session info) = told.Accepted session info ∷ []
+told_by_sessions (of_sessions.KeptAfterInfo instead_of connect) =
+    told.KeptAfterInfo instead_of connect ∷ []
 told_by_sessions (of_sessions.Kept instead_of) = told.Kept instead_of ∷ []
 told_by_sessions (of_sessions.WasCut peer) = told.WasCut peer ∷ []
 

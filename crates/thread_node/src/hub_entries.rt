@@ -58,27 +58,39 @@ pub enum HubEvent {
     },
 }
 
-/// What a hub or its sessions answered, in numbers. (Profile.)
+/// What a hub or its sessions answered: values, and of lists how long they are. (Profile.)
 ///
 /// The rest of an answer is not kept: it follows from the events.
-#[derive(Clone, Copy, PartialEq, Eq)]
+#[derive(Clone, Copy)]
 pub enum HubTold {
     /// A publication: the turn of its job, and how many frames were put for peers.
-    Issued { turn: Turn, frames: usize },
+    Issued {
+        turn: Turn,
+        frames: usize,
+    },
     /// A message of a peer: the turn of its job.
     Routed(Turn),
     /// News of a peer: the number of the last change of interest that is known now.
     Heard(u64),
     /// The deltas of a shard, or a drain: how many changes of interest the peers are told, and how many peers were cut.
-    Collected { changes: usize, cut: usize },
+    Collected {
+        changes: usize,
+        cut: usize,
+    },
     /// How many frames were taken for a peer.
     Taken(usize),
     /// The session that was dialed.
     Dialed(SessionId),
-    /// The session that was accepted.
-    Accepted(SessionId),
-    /// An `INFO`: the session that was kept for the peer before.
-    KeptAfterInfo(Option<SessionId>),
+    /// The session that was accepted, and the `INFO` for it.
+    Accepted {
+        session: SessionId,
+        info: RouteInfo,
+    },
+    /// An `INFO`: the session that was kept for the peer before, and the `CONNECT` that answers it.
+    KeptAfterInfo {
+        instead_of: Option<SessionId>,
+        connect: RouteConnect,
+    },
     /// A `CONNECT`: the session that was kept for the peer before.
     Kept(Option<SessionId>),
     /// The end of a session: the peer that is cut with it.

@@ -1,7 +1,7 @@
 //! What is written down of a call's answer. A refusal is, with its cause; want of memory is not, since nothing was
 //! done.
 
-ghost use Rattle.std.specs.Prelude.{◌≡◌, length, option_to_list, Some};
+ghost use Rattle.std.specs.Prelude.{◌≡◌, length, Some};
 ghost use Rattle.node_threads.specs.Tapes.{told_of};
 ghost use Rattle.node_threads.specs.declared.shard_entries.ShardTold.TheVariants as shard_told;
 ghost use Rattle.node_law.specs.declared.faults.NodeFault.TheVariants.{Hub, Session};
@@ -75,12 +75,10 @@ pub fn told_subscribed(done: &Result<Subscribed, Failure<ShardFault>>) -> Option
 /// Of an unsubscribe.
 pub fn told_unsubscribed(done: &Result<Option<SubId>, ShardFault>) -> Option<ShardTold>
     ensures { result
-        ≡ told_of_shard (λ ended. shard_told.Unsubscribed (length (option_to_list ended)))
-        (of_decision done.now) }
+        ≡ told_of_shard (λ ended. shard_told.Unsubscribed ended) (of_decision done.now) }
 {
     match done {
-        Ok(None) => Some(ShardTold::Unsubscribed(0)),
-        Ok(Some(_)) => Some(ShardTold::Unsubscribed(1)),
+        Ok(ended) => Some(ShardTold::Unsubscribed(*ended)),
         Err(fault) => Some(ShardTold::Refused(*fault)),
     }
 }
@@ -246,10 +244,13 @@ pub fn told_dialed(done: &Result<SessionId, Failure<SessionFault>>) -> Option<Hu
 pub fn told_accepted(
     done: &Result<(SessionId, RouteInfo), Failure<SessionFault>>,
 ) -> Option<HubTold>
-    ensures { result ≡ told_of_sessions (λ given. hub_told.Accepted given.0) done.now }
+    ensures { result ≡ told_of_sessions (λ given. hub_told.Accepted given.0 given.1) done.now }
 {
     match done {
-        Ok(given) => Some(HubTold::Accepted(given.0)),
+        Ok(given) => Some(HubTold::Accepted {
+            session: given.0,
+            info: given.1,
+        }),
         Err(failure) => refused_by_sessions(*failure),
     }
 }
@@ -257,10 +258,13 @@ pub fn told_accepted(
 /// Of an `INFO`.
 pub fn told_info(done: &Result<(Kept, RouteConnect), Failure<SessionFault>>) -> Option<HubTold>
     ensures { result
-        ≡ told_of_sessions (λ kept. hub_told.KeptAfterInfo kept.0.instead_of) done.now }
+        ≡ told_of_sessions (λ kept. hub_told.KeptAfterInfo kept.0.instead_of kept.1) done.now }
 {
     match done {
-        Ok(kept) => Some(HubTold::KeptAfterInfo(kept.0.instead_of)),
+        Ok(kept) => Some(HubTold::KeptAfterInfo {
+            instead_of: kept.0.instead_of,
+            connect: kept.1,
+        }),
         Err(failure) => refused_by_sessions(*failure),
     }
 }

@@ -14,8 +14,8 @@
 //! In reading order: `passes` is what a caller asked and was told, with the server's calls that tell it to a pass
 //! (`hub_calls`, `shard_calls`), and `asking` the events that a pass keeps. `report` is the end, and `issued` names
 //! the publications that it tells of. That what was written down is what callers were told is seen by `asked`,
-//! `passes_told` and `order`, and that the hub was handed what the shards gave by `handing`. `faults` says why there
-//! is no report.
+//! `passes_told`, `same` and `order`, and that the hub was handed what the shards gave by `handing`. `faults` says
+//! why there is no report.
 #![tactic(auto)]
 
 mod asked;
@@ -27,6 +27,7 @@ mod order;
 mod passes;
 mod passes_told;
 mod report;
+mod same;
 
 pub use faults::Unfinished;
 pub use issued::IssuedJob;

@@ -24,8 +24,8 @@ use sub_table::SubTable;
 use subj::{ConnId, Failure};
 use thread_node::{HubSection, HubTold, NO_SHARD, ShardSection, ThreadNode, answered_by_shard};
 
-/// What a call answered, in numbers: one of the hub's, or one of a shard's.
-#[derive(Clone, Copy, PartialEq, Eq)]
+/// What a call answered, lists in numbers: one of the hub's, or one of a shard's.
+#[derive(Clone, Copy)]
 pub enum CallAnswer {
     Hub(HubTold),
     Shard(ShardTold),

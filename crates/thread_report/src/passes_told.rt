@@ -5,7 +5,8 @@ ghost use Rattle.thread_report.specs.Owed.{AreTold, IsInOrder, call_of_hub, call
 
 use crate::asked::{is_of_hub, is_of_shard};
 use crate::faults::Unfinished;
-use crate::passes::{Call, CallAnswer, Pass};
+use crate::passes::{Call, Pass};
+use crate::same::{is_told_by_hub, is_told_by_shard};
 use node_threads::{NodeName, ShardEntry, ShardTold};
 use std::alloc::Global;
 use thread_node::HubEntry;
@@ -146,7 +147,7 @@ fn is_by_hub(call: &Call, place: usize, entry: &HubEntry) -> bool
 {
     call.lock == 0
         && call.place == place
-        && call.told == CallAnswer::Hub(entry.told)
+        && is_told_by_hub(&call.told, &entry.told)
         && is_of_hub(&call.event, &entry.event)
 }
 
@@ -156,6 +157,6 @@ fn is_by_shard(call: &Call, shard: u64, place: usize, entry: &ShardEntry) -> boo
 {
     call.lock == shard
         && call.place == place
-        && call.told == CallAnswer::Shard(entry.told)
+        && is_told_by_shard(&call.told, &entry.told)
         && is_of_shard(&call.event, shard, &entry.event)
 }

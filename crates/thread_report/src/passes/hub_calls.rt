@@ -124,7 +124,7 @@ impl<N: NodeName> Pass<N> {
         node: &ThreadNode<T, N>,
     ) -> Result<(SessionId, RouteInfo), Failure<SessionFault>>
         ensures told { Gains N.keep 0 (Own own.Accept)
-            (by_sessions (λ given. hub_told.Accepted given.0) result) self.old.calls
+            (by_sessions (λ given. hub_told.Accepted given.0 given.1) result) self.old.calls
             self.new.calls }
     {
         let keep = node.keeps_tapes();
@@ -145,8 +145,8 @@ impl<N: NodeName> Pass<N> {
         info: &RouteInfo,
     ) -> Result<(Kept, RouteConnect), Failure<SessionFault>>
         ensures told { Gains N.keep 0 (OnInfo session info.now)
-            (by_sessions (λ kept. hub_told.KeptAfterInfo kept.0.instead_of) result) self.old.calls
-            self.new.calls }
+            (by_sessions (λ kept. hub_told.KeptAfterInfo kept.0.instead_of kept.1) result)
+            self.old.calls self.new.calls }
     {
         let keep = node.keeps_tapes();
         let (mut hub, place) = self.enter_hub(rt, node)?;

@@ -1,6 +1,6 @@
 //! What callers ask of a shard.
 
-ghost use Rattle.std.specs.Prelude.{◌≡◌, IfOk, Some, None, cond, length, option_to_list};
+ghost use Rattle.std.specs.Prelude.{◌≡◌, IfOk, Some, None, cond, length};
 ghost use Rattle.thread_report.specs.Owed.{Gains, by_server};
 ghost use Rattle.thread_report.specs.declared.passes.CallAnswer.TheVariants.{Shard};
 ghost use Rattle.shard_core.specs.Answers.{answer_of};
@@ -130,9 +130,8 @@ impl<N: NodeName> Pass<N> {
         max: Option<u64>,
     ) -> Result<Option<SubId>, Failure<NodeFault>>
         ensures told { Gains N.keep shard (Own (own.OfConn conn (of_conn.Unsubscribe sid.now max)))
-            (by_server (λ ended. Shard (shard_told.Unsubscribed (length (option_to_list ended))))
-            result)
-            self.old.calls self.new.calls }
+            (by_server (λ ended. Shard (shard_told.Unsubscribed ended)) result) self.old.calls
+            self.new.calls }
         ensures answers { AnswersAt (has_conn N.race shard conn) result }
     {
         let keep = node.keeps_tapes();

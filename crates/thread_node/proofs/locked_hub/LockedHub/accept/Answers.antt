@@ -21,7 +21,7 @@ invariant_of-self g c =
     subst (λ said. HubNotes named said s.tape more) c.told_accepted-told.ensures (c.note_hub.ensures named refl) in (
       i.0,
       hub_answered s.state c.accept-done.new.self (BySessions asks) named
-          (λ given. OfSessions (of_sessions.Accepted given.0 given.1)) (λ given. told.Accepted given.0)
+          (λ given. OfSessions (of_sessions.Accepted given.0 given.1)) (λ given. told.Accepted given.0 given.1)
           (λ fault. Session fault) cause c.accept-done.result s.tape more i.1 tt refl refl (λ x. refl) (λ x. refl)
           c.accept-done.ensures noted,
     )

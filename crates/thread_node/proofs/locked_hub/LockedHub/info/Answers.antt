@@ -22,6 +22,6 @@ invariant_of-self g c =
       i.0,
       hub_answered s.state c.info-done.new.self (BySessions asks) named
           (λ kept. OfSessions (of_sessions.KeptAfterInfo kept.0.instead_of kept.1))
-          (λ kept. told.KeptAfterInfo kept.0.instead_of) (λ fault. Session fault) cause c.info-done.result s.tape more
-          i.1 refl refl refl (λ x. refl) (λ x. refl) c.info-done.ensures noted,
+          (λ kept. told.KeptAfterInfo kept.0.instead_of kept.1) (λ fault. Session fault) cause c.info-done.result s.tape
+          more i.1 refl refl refl (λ x. refl) (λ x. refl) c.info-done.ensures noted,
     )
