@@ -9,7 +9,7 @@ use Rattle.route_frames.specs.Canonical.{frame_bytes}
 use Rattle.server_calls.specs.Routed.{Routed}
 use Rattle.node_net.specs.Keyed.{ChangesAt}
 use Rattle.node_net.specs.Sending.{Sends, SendsWhole, IsNoted, IsGivenUpFor}
-use Rattle.node_net.specs.Telling.{spelling, SendsFrames, TellsFrames, TellsSome, TellsMany, TellsPeer}
+use Rattle.node_net.specs.Telling.{ReachesAt, spelling, SendsFrames, TellsFrames, TellsSome, TellsMany, TellsPeer}
 use Rattle.node_net.specs.declared.connection.Connection.{Connection}
 use Rattle.node_net.proofs.KeyedLemmas.{changes_so, changes_twice}
 
@@ -67,10 +67,11 @@ told_none routed gave wrote peer key old = record { rounds = 0; many = refl }
 pub told_more : {H S : Type 0} (routed : H → Routed → H → Type 0) (gave wrote : S → Came → S → Type 0)
     (peer key count : ℕ) (old mid new : Slab (Connection S))
     → ToldSoFar routed gave wrote peer key old mid
+    → ReachesAt peer key mid
     → TellsSome routed gave wrote peer count key mid new
     → ToldSoFar routed gave wrote peer key old new
-told_more routed gave wrote peer key count old mid new far some =
-    record { rounds = suc far.rounds; many = (mid, count, far.many, some) }
+told_more routed gave wrote peer key count old mid new far reached some =
+    record { rounds = suc far.rounds; many = (mid, count, far.many, reached, some) }
 
 pub told_all : {H S : Type 0} (routed : H → Routed → H → Type 0) (gave wrote : S → Came → S → Type 0)
     (peer key : ℕ) (old new : Slab (Connection S))
@@ -82,11 +83,12 @@ told_all routed gave wrote peer key old new far =
 pub told_last : {H S : Type 0} (routed : H → Routed → H → Type 0) (gave wrote : S → Came → S → Type 0)
     (peer key count : ℕ) (old mid new : Slab (Connection S))
     → ToldSoFar routed gave wrote peer key old mid
+    → ReachesAt peer key mid
     → TellsSome routed gave wrote peer count key mid new
     → TellsPeer routed gave wrote peer key old new
-told_last routed gave wrote peer key count old mid new far some =
+told_last routed gave wrote peer key count old mid new far reached some =
     told_all routed gave wrote peer key old new
-    (told_more routed gave wrote peer key count old mid new far some)
+    (told_more routed gave wrote peer key count old mid new far reached some)
 
 pub told_full : {H S : Type 0} (routed : H → Routed → H → Type 0) (gave wrote : S → Came → S → Type 0)
     (peer key : ℕ) (old mid new : Slab (Connection S))

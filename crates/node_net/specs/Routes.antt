@@ -49,6 +49,12 @@ dialed_place (Dialed peer) = Some peer
 dialed_place (Accepted from proved) = None
 dialed_place (Kept peer inc) = None
 
+-- the place of the server that the session is kept with
+abbrev pub kept_place : Stage → Option ℕ
+kept_place (Kept peer inc) = Some peer
+kept_place (Dialed peer) = None
+kept_place (Accepted from proved) = None
+
 -- whether the other end has proved that it is another server than the one at this place
 abbrev pub has_proved_other : Stage → ℕ → Bool
 has_proved_other (Accepted from (Some place)) peer = not (nat_eq place peer)

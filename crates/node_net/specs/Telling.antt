@@ -1,14 +1,36 @@
 -- What another server is told.
-use Rattle.std.specs.Prelude.{◌≡◌, ◌⊎◌, ℕ, zero, suc, List, [], ◌∷◌, ◌++◌}
-use Rattle.slab.specs.Slab.{Slab}
+use Rattle.std.specs.Prelude.{◌≡◌, ◌⊎◌, ℕ, zero, suc, List, [], ◌∷◌, ◌++◌, Option, Some, None, MatchOption}
+use Rattle.slab.specs.Slab.{Slab, get}
 use Rattle.net_streams.specs.Writes.{Came}
 use Rattle.route_values.specs.Frames.{Frame}
 use Rattle.route_values.specs.declared.frames.RouteFrame.TheVariants.{Numbered}
 use Rattle.route_frames.specs.Canonical.{frame_bytes}
 use Rattle.server_calls.specs.Routed.{Routed, took, WasRouted}
 use Rattle.node_net.specs.Keyed.{ChangesAt, Behind}
-use Rattle.node_net.specs.Sending.{Sends, out_of_memory, IsNoted, IsGivenUpFor}
+use Rattle.node_net.specs.Routes.{kept_place}
+use Rattle.node_net.specs.Sending.{ending_of, Sends, out_of_memory, IsNoted, IsGivenUpFor}
 use Rattle.node_net.specs.declared.connection.Connection.{Connection}
+use Rattle.node_net.specs.declared.connection.Ending.TheVariants.{Gone}
+use Rattle.node_net.specs.declared.connection.Link.{Link}
+use Rattle.node_net.specs.declared.connection.Link.TheVariants as link
+
+-- ---- the connection over which another server is reached
+
+-- the place of the server at the other end, where it is a route whose session is kept with one
+abbrev pub peer_of : Link → Option ℕ
+peer_of (link.Client client) = None
+peer_of (link.Route route) = kept_place route.stage
+
+-- Over the connection the server at this place is reached: it is a route whose session is kept with
+-- that server, its stream has not failed, and it is not given up.
+abbrev pub Reaches : {S : Type 0} → ℕ → Connection S → Type 0
+Reaches peer c = (peer_of c.link ≡ Some peer) × ¬ (ending_of c ≡ Gone)
+
+-- So it is of the connection at this key, and there is one.
+abbrev pub ReachesAt : {S : Type 0} → ℕ → ℕ → Slab (Connection S) → Type 0
+ReachesAt peer key table = MatchOption (get table key) ⊥ (λ connection. Reaches peer connection)
+
+-- ---- what is sent over it
 
 -- the spelling of frames, one behind the other
 abbrev pub spelling : List Frame → List ℕ
@@ -39,7 +61,7 @@ pub record TellsSome {H S : Type 0} (routed : H → Routed → H → Type 0)
   pub taken : WasRouted routed (took peer count frames)
   pub told : TellsFrames gave wrote key frames old new
 
--- That is done so many times in a row.
+-- That is done so many times in a row, each time while that server is reached over that connection.
 abbrev pub TellsMany : {H S : Type 0} → (H → Routed → H → Type 0) → (S → Came → S → Type 0)
     → (S → Came → S → Type 0) → ℕ → ℕ → Slab (Connection S) → ℕ → Slab (Connection S) → Type 0
 TellsMany routed gave wrote peer key old zero new = new ≡ old
@@ -47,6 +69,7 @@ TellsMany {H} {S} routed gave wrote peer key old (suc rounds) new =
     (mid : Slab (Connection S))
     × (count : ℕ)
     × TellsMany routed gave wrote peer key old rounds mid
+    × ReachesAt peer key mid
     × TellsSome routed gave wrote peer count key mid new
 
 -- That is done any number of times; and then the connection may be given up.

@@ -4,6 +4,7 @@ ghost use Rattle.std.specs.Prelude.{◌≡◌, ℕ, List, ◌++◌, ◌↔◌, �
 ghost use Rattle.std.specs.Bool.{OnTrue, OnFalse};
 ghost use Rattle.net_streams.specs.Writes.{HasWritten};
 ghost use Rattle.node_net.specs.Taking.{IsClientOf, Gives};
+ghost use Rattle.node_net.specs.Telling.{peer_of, Reaches};
 ghost use Rattle.node_net.specs.Holds.{is_proving as proving, LinkAdvances, LinkDetaches, LinkLeaves, LinkCloses, LeavesAndSends};
 ghost use Rattle.node_net.specs.Sending.{ending_of, Sends, SendsTaken, SendsWhole, KeepsOrLoses, IsBlamed, IsLimited, Rests, out_of_memory, closed_if_written};
 
@@ -481,6 +482,27 @@ impl<S: Stream> Connection<S> {
         match &self.link {
             Link::Client(_) => false,
             Link::Route(route) => route.is_kept(),
+        }
+    }
+
+    /// The place of the server at its other end, where it is a route whose session is kept with one.
+    fn peer(&self) -> Option<usize>
+        ensures { result ≡ peer_of self.now.link }
+    {
+        match &self.link {
+            Link::Client(_) => None,
+            Link::Route(route) => route.kept_with(),
+        }
+    }
+
+    /// Whether the server at this place is reached over it: it is a route whose session is kept with that one, and it does not go at the end
+    /// of the turn.
+    pub fn reaches(&self, place: usize) -> bool
+        ensures { OnTrue result (Reaches place self.now) }
+    {
+        match self.peer() {
+            Some(peer) => peer == place && self.ending() != Ending::Gone,
+            None => false,
         }
     }
 

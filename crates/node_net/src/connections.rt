@@ -2,9 +2,10 @@
 //! stay as it is. That is a client that is closed once its last bytes are written, a route that has not told who it is, and one that takes nothing
 //! of what waits for it. No deadline waits for a stream.
 
-ghost use Rattle.std.specs.Prelude.{◌≡◌};
+ghost use Rattle.std.specs.Prelude.{◌≡◌, IfSome};
 ghost use Rattle.node_net.specs.Keyed.{ChangesAt};
 ghost use Rattle.node_net.specs.Sending.{SendsWhole, Rests, IsNoted, IsBlamed, GivesUp, IsGivenUp, IsGivenUpFor};
+ghost use Rattle.node_net.specs.Telling.{ReachesAt};
 
 use crate::connection::{Cause, Connection, Ending};
 use crate::handshake::Proving;
@@ -349,10 +350,12 @@ impl<S: Stream> Connections<S> {
         }
     }
 
-    /// How many bytes that were sent are not written, of a connection that does not go at the end of the turn.
-    pub fn backlog(&self, key: usize) -> Option<usize> {
+    /// How many bytes that were sent are not written, of the connection of this key, where the server at this place is reached over it.
+    pub fn backlog(&self, peer: usize, key: usize) -> Option<usize>
+        ensures { IfSome result (λ backlog. ReachesAt peer key self.entry.now.table) }
+    {
         let connection = self.table.get(key)?;
-        (connection.ending() != Ending::Gone).then_some(connection.backlog())
+        connection.reaches(peer).then_some(connection.backlog())
     }
 
     /// The server ends a connection for this cause. Of a client it is told at once, with how many bytes wait for it, beside so many that are

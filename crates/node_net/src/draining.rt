@@ -257,7 +257,7 @@ impl<S: Stream, C: ServerCalls> Server<S, C> {
         }
         for place in 0..self.peers.count() {
             if let Some(key) = self.peers.kept_connection(place) {
-                if self.connections.backlog(key).unwrap_or(0) > 0 {
+                if self.connections.backlog(place, key).unwrap_or(0) > 0 {
                     return false;
                 }
             }

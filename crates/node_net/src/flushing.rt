@@ -409,7 +409,7 @@ impl<S: Stream, C: ServerCalls> Server<S, C> {
             self.new.connections.table }
     {
         for _round in 0..u64::MAX {
-            let Some(backlog) = self.connections.backlog(key) else {
+            let Some(backlog) = self.connections.backlog(peer, key) else {
                 return;
             };
             if backlog >= PEER_BACKLOG {

@@ -6,7 +6,7 @@ ghost use Rattle.std.specs.Bool.{OnTrue, OnFalse};
 ghost use Rattle.server_calls.specs.Routed.{informed, connected, was_cut, WasRouted};
 ghost use Rattle.subj.specs.declared.limits.TheConstants.{WINDOW};
 ghost use Rattle.std.specs.Option.{option_zip};
-ghost use Rattle.node_net.specs.Routes.{place_of, dialed_place, has_proved_other as proved_other, is_of_life as of_life, IsOfPeer};
+ghost use Rattle.node_net.specs.Routes.{place_of, dialed_place, kept_place as place_kept, has_proved_other as proved_other, is_of_life as of_life, IsOfPeer};
 ghost use Rattle.node_net.specs.Routes.{is_done, end_of_refusal, end_behind, end_of as ran_behind, EndsReading, IsKept, told_by, Looks, ReadsOn, ReadsBehind};
 ghost use Rattle.node_net.specs.Routes.{Applies, AppliesAhead, HandsNext, HasReceived, ReceivesAtHub, TakesInfo, TakesConnect, TakesConnectOf, Takes, Advances, CutsSession};
 ghost use Rattle.node_net.specs.declared.route_link.Stepped.TheVariants as step;
@@ -351,6 +351,17 @@ impl RouteLink {
     /// Whether its session is kept.
     pub fn is_kept(&self) -> bool {
         matches!(self.stage, Stage::Kept { .. })
+    }
+
+    /// The place of the server that its session is kept with.
+    pub fn kept_with(&self) -> Option<usize>
+        ensures { result ≡ place_kept self.now.stage }
+    {
+        match self.stage {
+            Stage::Kept { peer, .. } => Some(peer),
+            Stage::Dialed(_) => None,
+            Stage::Accepted { .. } => None,
+        }
     }
 
     /// Reads once, at most so many bytes.
