@@ -1,9 +1,9 @@
 //! A turn of the loop: what ready connections ask is done, what was put is written, and connections are closed that go.
 
-ghost use Rattle.std.specs.Prelude.{Option, Result};
+ghost use Rattle.std.specs.Prelude.{◌≡◌, true, MatchOption, Option, Result};
 ghost use Rattle.std.specs.declared.alloc.AllocError.{AllocError};
 ghost use Rattle.hub_core.specs.declared.answers.CollectResult.{CollectResult};
-ghost use Rattle.node_net.specs.Turning.{Works, WorksShard, WorksBetween, WorksEach, CollectsEach};
+ghost use Rattle.node_net.specs.Turning.{Works, IsWorked, WorksShard, WorksBetween, WorksEach, CollectsEach};
 
 use crate::connection::Cause;
 use crate::limits::TAKEN_EARLY;
@@ -42,7 +42,7 @@ impl Worked {
 /// Works a shard until no job waits for it, or what waits for a client has come to half of its room.
 #[tactic(auto, using(crate::proofs::WorkLemmas::works_none, crate::proofs::WorkLemmas::works_one, crate::proofs::WorkLemmas::works_last))]
 fn work_jobs<H: ShardCalls, R: Wait>(rt: &R, shard: &mut H, worked: &mut Worked)
-    ensures { Works H.worked shard.old shard.new }
+    ensures { Works H.worked worked.new.is_urgent shard.old shard.new }
 {
     for _turn in 0..u64::MAX {
         match shard.work_next(rt) {
@@ -64,7 +64,7 @@ fn work_jobs<H: ShardCalls, R: Wait>(rt: &R, shard: &mut H, worked: &mut Worked)
 
 /// Works a shard that is held.
 fn work_held<H: ShardCalls, R: Wait>(rt: &R, shard: &mut H) -> Worked
-    ensures { Works H.worked shard.old shard.new }
+    ensures { Works H.worked result.is_urgent shard.old shard.new }
 {
     let mut worked = Worked::nothing();
     work_jobs(rt, shard, &mut worked);
@@ -74,7 +74,8 @@ fn work_held<H: ShardCalls, R: Wait>(rt: &R, shard: &mut H) -> Worked
 
 /// Works the shard of this number, where there is one.
 fn work_shard<C: ServerCalls, R: Wait>(rt: &R, node: C, number: u64) -> Option<Worked>
-    ensures { WorksShard C.Shard.worked C.Shard.number (C.lacks node) number }
+    ensures { MatchOption result (C.lacks node number)
+        (λ worked. IsWorked C.Shard.worked C.Shard.number worked.is_urgent number) }
 {
     match node.shard(rt, number) {
         None => None,
@@ -108,7 +109,7 @@ impl<S: Stream, C: ServerCalls> Server<S, C> {
     ///
     /// A stream that failed, or has come to its end, closes its connection, and no other.
     pub fn turn<R: Wait>(&mut self, rt: &R, keys: &[usize])
-        ensures worked { WorksEach C.Shard.worked C.Shard.number (C.lacks self.old.node)
+        ensures worked { WorksEach C.Shard.worked C.Shard.number (C.lacks self.old.node) true
             (C.count self.old.node) }
         ensures collected { CollectsEach (C.collected self.old.node) (C.count self.old.node) }
     {
@@ -263,7 +264,7 @@ impl<S: Stream, C: ServerCalls> Server<S, C> {
     /// Works all shards until no job waits. Jobs that a lane had no memory for are handed over again, and where there is none still in
     /// the next turn.
     fn work<R: Wait>(&mut self, rt: &R, node: C)
-        ensures { WorksEach C.Shard.worked C.Shard.number (C.lacks node) (C.count node) }
+        ensures { WorksEach C.Shard.worked C.Shard.number (C.lacks node) true (C.count node) }
     {
         self.work_all(rt, node);
         if self.unworked > 0 {
@@ -275,8 +276,9 @@ impl<S: Stream, C: ServerCalls> Server<S, C> {
 
     /// Works all shards until no job waits. What is put is taken and written in between where a client's room
     /// comes to its half.
+    #[tactic(auto, using(crate::proofs::WorkLemmas::between_any))]
     fn work_all<R: Wait>(&mut self, rt: &R, node: C)
-        ensures { WorksEach C.Shard.worked C.Shard.number (C.lacks node) (C.count node) }
+        ensures { WorksEach C.Shard.worked C.Shard.number (C.lacks node) true (C.count node) }
     {
         if self.work_each(rt, node) {
             self.work_on(rt, node);
@@ -297,7 +299,7 @@ impl<S: Stream, C: ServerCalls> Server<S, C> {
     /// taken.
     #[tactic(auto, using(crate::proofs::WorkLemmas::between_both))]
     fn work_each<R: Wait>(&mut self, rt: &R, node: C) -> bool
-        ensures { WorksEach C.Shard.worked C.Shard.number (C.lacks node) (C.count node) }
+        ensures { WorksEach C.Shard.worked C.Shard.number (C.lacks node) result (C.count node) }
     {
         let count = node.shards();
         let first = self.next_first(count);
@@ -317,7 +319,7 @@ impl<S: Stream, C: ServerCalls> Server<S, C> {
     /// Works the shards behind this place, up to that one. Whether some are to be worked on once what was put is taken.
     #[tactic(auto, using(crate::proofs::WorkLemmas::between_none, crate::proofs::WorkLemmas::between_more, crate::proofs::WorkLemmas::between_less))]
     fn work_between<R: Wait>(&mut self, rt: &R, node: C, from: u64, until: u64) -> bool
-        ensures { WorksBetween C.Shard.worked C.Shard.number (C.lacks node) from until }
+        ensures { WorksBetween C.Shard.worked C.Shard.number (C.lacks node) result from until }
     {
         let mut is_urgent = false;
         for place in from..until {
@@ -328,7 +330,7 @@ impl<S: Stream, C: ServerCalls> Server<S, C> {
 
     /// Works the shard of this number. Whether it is to be worked on once what was put is taken.
     fn work_one<R: Wait>(&mut self, rt: &R, node: C, number: u64) -> bool
-        ensures { WorksShard C.Shard.worked C.Shard.number (C.lacks node) number }
+        ensures { WorksShard C.Shard.worked C.Shard.number (C.lacks node) result number }
     {
         match work_shard(rt, node, number) {
             None => false,
@@ -337,7 +339,9 @@ impl<S: Stream, C: ServerCalls> Server<S, C> {
     }
 
     /// Notes how a shard was worked. Whether it is to be worked on once what was put is taken.
-    fn after_work<R: Wait>(&mut self, rt: &R, node: C, number: u64, worked: Worked) -> bool {
+    fn after_work<R: Wait>(&mut self, rt: &R, node: C, number: u64, worked: Worked) -> bool
+        ensures { result ≡ worked.is_urgent }
+    {
         self.unworked = self.unworked.saturating_sub(worked.jobs);
         self.connections.is_short |= worked.is_short;
         if worked.has_deltas {
