@@ -21,8 +21,6 @@ mod laws;
 mod lines;
 mod parties;
 mod secret;
-#[cfg(test)]
-mod tests;
 mod words;
 
 pub use acceptor::{Acceptor, Heard};

@@ -1,6 +1,6 @@
 //! The vectors of RFC 4231, and how many bytes a secret has. Whole handshakes are cases of `server_golden`.
 
-use super::*;
+use peer_proof::{Secret, SecretFault, hmac_sha256};
 use std::test::Fail;
 
 /// Cases 1 to 4, 6 and 7 of RFC 4231: the message, and the mac.
