@@ -21,6 +21,9 @@ struct Known {
     passed: usize,
 }
 
+/// What is answered here of the entries on a server's tapes: whoever has its locks knows them.
+pub const ENTRIES: &str = "entries on its tapes";
+
 /// A server over streams in memory, whatever makes its calls, and its connections, in the order in which they came.
 #[derive(Drop)]
 pub struct End<C: ServerCalls> {
@@ -412,6 +415,7 @@ impl<C: ServerCalls> End<C> {
             "goes_on" => yes_or_no(alloc, self.server.goes_on()),
             "has_drained" => yes_or_no(alloc, self.server.has_drained()),
             "next_turn" => number_told(alloc, "at", self.server.next_turn(), "never"),
+            "entries" => text(alloc, ENTRIES),
             "told" => self.told(),
             "ends" => self.ends(first, first, bytes),
             "ends_each" => self.ends(first, line.words.number(1), bytes),
@@ -556,7 +560,8 @@ fn numbers<C: ServerCalls, D: ServerCalls>(
 }
 
 /// The calls that ask something.
-const QUESTIONS: [&str; 14] = [
+const QUESTIONS: [&str; 15] = [
+    "entries",
     "sent",
     "length",
     "failed",

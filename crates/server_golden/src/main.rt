@@ -21,6 +21,9 @@
 //! n1.add client
 //! n1.turn 1
 //! n1.ends 1|PONG\r\n => 1 of 1
+//! mesh.new 1|1|kept
+//! n1.add client
+//! n1.entries => hub 0, shards 1
 //! shutdown.new 2
 //! shutdown.is_over => no
 //! ```
@@ -32,7 +35,8 @@
 //! `mesh.new` starts the server n1 of so many servers, with so many shards, and n2 beside it. A stream is made ready by `stream`, and `add`
 //! takes it: a server's connections are named by their numbers, in the order in which they came. Time, failing streams and which
 //! connections are ready, three at most in a turn, are what a case says of them. `told` answers what has happened at a server, in the words
-//! of its log; `log` answers the whole line of an event that streams do not bring about.
+//! of its log; `log` answers the whole line of an event that streams do not bring about. `kept` has what both servers do under their locks written
+//! down, and `n1.entries` answers how many entries stand on the tapes of n1: on the hub's, and on each shard's.
 //!
 //! In reading order, of threads: `races` has a race of two shards, `lanes` lanes and the jobs that pass them, and `turn_calls` a shard by itself
 //! and one with its hub. `nodes` plays a case of a server, `node_calls` are its calls, and `callers` has those of callers who tell of them. Of

@@ -3,9 +3,9 @@
 
 ghost use Rattle.std.specs.Prelude.{◌≡◌};
 
-use crate::ends::{End, play};
+use crate::ends::{ENTRIES, End, play};
 use crate::refusing_lanes::LanedNode;
-use golden::{Words, server_of, text};
+use golden::{Words, call_of, server_of, tell, tell_number, text};
 use node_net::MemStream;
 use server_calls::ServerCalls;
 use std::alloc::{AllocError, Global};
@@ -15,15 +15,67 @@ use sub_trie::TrieTable;
 use subj::ServerIdentity as Life;
 use thread_node::{NodeName, Parts, ThreadNode};
 
-/// How many servers are in the cluster and how many shards each has, how many times the first one's lanes take nothing, and the numbers with
-/// which a case is played, from the one to before the other.
+/// How many servers are in the cluster and how many shards each has, whether what they do is written down, how many times the first one's lanes
+/// take nothing, and the numbers with which a case is played, from the one to before the other.
 #[derive(Clone, Copy)]
 pub struct Mesh {
     nodes: u64,
     shards: u64,
+    keeps: bool,
     refusals: u64,
     from: u64,
     to: u64,
+}
+
+/// How many entries stand on the tape of the shard of this number.
+fn entries_of<N: NodeName, R: Wait>(rt: &R, node: &ThreadNode<TrieTable, N>, number: u64) -> u64 {
+    match node.shard(rt, number) {
+        Some(shard) => shard.entries_kept() as u64,
+        None => 0,
+    }
+}
+
+/// Tells how many entries stand on the tapes of a server: on the hub's, and on each shard's, in their order.
+fn tell_entries<N: NodeName, R: Wait>(
+    rt: &R,
+    node: &ThreadNode<TrieTable, N>,
+    answer: &mut String,
+) -> Option<()> {
+    let entries = node.hub(rt).entries_kept();
+    tell_number(answer, "hub ", entries as u64)?;
+    tell(answer, ", shards")?;
+    for place in 0..node.shards() {
+        tell_number(answer, " ", entries_of(rt, node, place + 1))?;
+    }
+    Some(())
+}
+
+/// Whether calls that were answered so end with one that asks how many entries stand on the tapes of n1.
+fn asks_for_entries(calls: &str, answer: &Result<String, AllocError>) -> bool {
+    let last = call_of(calls.lines().last().unwrap_or(""));
+    match answer {
+        Ok(told) => last.of == "n1" && told.as_str() == ENTRIES,
+        Err(_) => false,
+    }
+}
+
+/// The answer of these calls, which is told of this server's tapes where the last one asks for that.
+fn with_entries<N: NodeName, R: Wait>(
+    rt: &R,
+    alloc: Global,
+    node: &ThreadNode<TrieTable, N>,
+    calls: &str,
+    answer: Result<String, AllocError>,
+) -> Result<String, AllocError> {
+    if !asks_for_entries(calls, &answer) {
+        return answer;
+    }
+    drop(answer);
+    let mut told = String::new(alloc);
+    match tell_entries(rt, node, &mut told) {
+        Some(()) => Ok(told),
+        None => Err(AllocError),
+    }
 }
 
 /// Makes the calls on the first server and one without connections.
@@ -102,6 +154,7 @@ fn play_with<M: NodeName, N: NodeName, R: Wait>(
 {
     let first: ThreadNode<TrieTable, M> = ThreadNode::start(alloc, parts)?;
     let answer = play_started::<_, N, _>(rt, alloc, mesh, &first, others, calls.as_str());
+    let answer = with_entries(rt, alloc, &first, calls.as_str(), answer);
     drop(first);
     answer
 }
@@ -147,6 +200,7 @@ impl Mesh {
         Mesh {
             nodes: 0,
             shards: 0,
+            keeps: false,
             refusals: 0,
             from: 0,
             to: 1,
@@ -157,7 +211,10 @@ impl Mesh {
     pub fn set(&mut self, call: &str, words: &Words<'_>) -> &'static str {
         let (first, second) = (words.number(0), words.number(1));
         match call {
-            "new" => (self.nodes, self.shards) = (first, second),
+            "new" => {
+                (self.nodes, self.shards) = (first, second);
+                self.keeps = words.at(2) == "kept";
+            }
             "lanes_refuse" => self.refusals = first,
             "for_each" => (self.from, self.to) = (first, second),
             _ => return "no such call",
@@ -179,7 +236,7 @@ impl Mesh {
     /// What it is made of.
     fn parts(&self, alloc: Global, place: u64) -> Option<Parts> {
         let life = self.life(alloc, place)?;
-        let (parts, _parkers) = Parts::new(alloc, life, false).ok()?;
+        let (parts, _parkers) = Parts::new(alloc, life, self.keeps).ok()?;
         Some(parts)
     }
 
