@@ -1,5 +1,5 @@
 -- What a pass gains of a call.
-use Rattle.std.proofs.Common.{◌≡◌, ℕ, Bool, List, Option, Result, Ok, Err, refl, subst}
+use Rattle.std.proofs.Common.{◌≡◌, ℕ, Bool, List, Option, Some, Result, Ok, Err, refl, subst}
 use Rattle.std.specs.Option.{option_map}
 use Rattle.subj.specs.declared.failures.Failure.{Failure}
 use Rattle.subj.specs.declared.failures.Failure.TheVariants.{Refused, OutOfMemory}
@@ -12,18 +12,25 @@ use Rattle.node_threads.specs.declared.shard_entries.ShardTold.{ShardTold}
 use Rattle.thread_node.specs.Refusing.{at_server}
 use Rattle.thread_node.specs.Told.{told_of_hub, told_of_shard}
 use Rattle.thread_node.specs.declared.hub_entries.HubTold.{HubTold}
-use Rattle.thread_report.specs.Owed.{Gains, by_server}
+use Rattle.thread_report.specs.Owed.{Gains, GainsList, by_server, by_shard, failed_by, plain}
 use Rattle.thread_report.specs.declared.passes.Call.{Call}
 use Rattle.thread_report.specs.declared.passes.CallAnswer.{CallAnswer}
-use Rattle.thread_report.specs.declared.passes.CallAnswer.TheVariants.{Hub, Shard}
+use Rattle.thread_report.specs.declared.passes.CallAnswer.TheVariants.{Hub}
 
 -- what is told of a shard's answer is what its server's caller has to tell
 pub shard_told : {X : Type 0} (answer : X → ShardTold) (done : Result X (Failure ShardFault))
-    → option_map (λ t. Shard t) (told_of_shard answer done)
-    ≡ by_server (λ x. Shard (answer x)) (at_server (λ why. fault.Shard why) done)
+    → option_map (λ t. plain t) (told_of_shard answer done)
+    ≡ by_server (λ x. plain (answer x)) (at_server (λ why. fault.Shard why) done)
 shard_told answer (Ok x) = refl
 shard_told answer (Err (Refused why)) = refl
 shard_told answer (Err OutOfMemory) = refl
+
+-- the same of an answer with lists
+pub lists_told : {X : Type 0} (answer : X → CallAnswer) (done : Result X (Failure ShardFault))
+    → by_shard answer done ≡ by_server answer (at_server (λ why. fault.Shard why) done)
+lists_told answer (Ok x) = refl
+lists_told answer (Err (Refused why)) = refl
+lists_told answer (Err OutOfMemory) = refl
 
 -- the same of the hub's
 pub hub_told : {X : Type 0} (answer : X → HubTold) (done : Result X (Failure HubFault))
@@ -47,7 +54,19 @@ pub shard_gains : {X : Type 0} (keep on : Bool) (shard : ℕ) (e : NodeEvent) (a
     (result : Result X (Failure NodeFault)) (old seen new : List Call)
     → keep ≡ on
     → seen ≡ old
-    → Gains keep shard e (by_server (λ x. Shard (answer x)) result) seen new
-    → Gains on shard e (by_server (λ x. Shard (answer x)) result) old new
+    → Gains keep shard e (by_server (λ x. plain (answer x)) result) seen new
+    → Gains on shard e (by_server (λ x. plain (answer x)) result) old new
 shard_gains keep on shard e answer result old seen new is same gains =
-    gains_from keep on shard e (by_server (λ x. Shard (answer x)) result) old seen new is same gains
+    gains_from keep on shard e (by_server (λ x. plain (answer x)) result) old seen new is same gains
+
+-- the same of an answer that gives this list
+pub list_gains : {A X : Type 0} (keep on : Bool) (shard : ℕ) (e : NodeEvent) (answer : X → List A → CallAnswer)
+    (list : List A) (result : Result X (Failure NodeFault)) (old seen new : List Call)
+    → keep ≡ on
+    → seen ≡ old
+    → Gains keep shard e (by_server (λ x. answer x list) result) seen new
+    → GainsList A on shard e answer result old new
+list_gains keep on shard e answer list (Ok x) old seen new is same gains =
+    (list, gains_from keep on shard e (Some (answer x list)) old seen new is same gains)
+list_gains keep on shard e answer list (Err failure) old seen new is same gains =
+    gains_from keep on shard e (failed_by failure) old seen new is same gains

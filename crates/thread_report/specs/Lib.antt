@@ -1,5 +1,7 @@
 -- what each step that was written down was asked, as an event of the server
 pub mod Events
+-- what shards answered there, lists whole
+pub mod Answered
 -- what the passes of callers have to tell of it
 pub mod Owed
 -- which publications the hub gave to the shards

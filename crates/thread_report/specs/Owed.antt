@@ -6,14 +6,17 @@ use Rattle.subj.specs.declared.failures.Failure.{Failure}
 use Rattle.subj.specs.declared.failures.Failure.TheVariants.{Refused, OutOfMemory}
 use Rattle.hub_core.specs.declared.faults.HubFault.{HubFault}
 use Rattle.route_session.specs.declared.faults.SessionFault.{SessionFault}
+use Rattle.shard_core.specs.declared.faults.ShardFault.{ShardFault}
+use Rattle.shard_core.specs.Shards.{State, new_shard}
 use Rattle.node_law.specs.declared.events.NodeEvent.{NodeEvent}
 use Rattle.node_law.specs.declared.faults.NodeFault.{NodeFault}
 use Rattle.node_law.specs.declared.faults.NodeFault.TheVariants as fault
 use Rattle.node_threads.specs.declared.shard_entries.ShardEntry.{ShardEntry}
 use Rattle.node_threads.specs.declared.shard_entries.ShardTold.{ShardTold}
 use Rattle.node_threads.specs.declared.shard_entries.ShardTold.TheVariants as shard_told
+use Rattle.thread_report.specs.Answered.{AnswerLists, lists_at, no_lists, state_behind}
 use Rattle.thread_report.specs.Events.{event_of_hub, event_of_shard}
-use Rattle.thread_node.specs.Told.{told_of_hub, told_of_sessions}
+use Rattle.thread_node.specs.Told.{told_in, told_of_hub, told_of_sessions}
 use Rattle.thread_node.specs.declared.hub_entries.HubEntry.{HubEntry}
 use Rattle.thread_node.specs.declared.hub_entries.HubTold.{HubTold}
 use Rattle.thread_node.specs.declared.hub_entries.HubTold.TheVariants as hub_told
@@ -44,6 +47,15 @@ Gains keep lock event (Some told) old new = GainsOne keep lock event told old ne
 -- What a caller has to tell of what it was answered: the answer, or why it was refused. For want of
 -- memory nothing was done, and for a shard that is not there no lock was taken.
 
+-- a shard's answer without lists
+abbrev pub plain : ShardTold → CallAnswer
+plain told = Shard told no_lists
+
+-- the lists that a pass keeps of an answer, for its caller to see: the hub's has none
+abbrev pub lists_kept : CallAnswer → Option AnswerLists
+lists_kept (Hub told) = None
+lists_kept (Shard told lists) = Some lists
+
 -- of the hub
 abbrev pub by_hub : {X : Type 0} → (X → HubTold) → Result X (Failure HubFault) → Option CallAnswer
 by_hub told result = option_map (λ t. Hub t) (told_of_hub told result)
@@ -58,7 +70,7 @@ by_sessions told result = option_map (λ t. Hub t) (told_of_sessions told result
 -- of the server: a shard, or the hub with a shard
 abbrev pub refused_by : NodeFault → Option CallAnswer
 refused_by fault.NoShard = None
-refused_by (fault.Shard why) = Some (Shard (shard_told.Refused why))
+refused_by (fault.Shard why) = Some (plain (shard_told.Refused why))
 refused_by (fault.Hub why) = Some (Hub (hub_told.Refused (fault.Hub why)))
 refused_by (fault.Session why) = Some (Hub (hub_told.Refused (fault.Session why)))
 
@@ -73,14 +85,38 @@ abbrev pub by_server : {X : Type 0}
 by_server told (Ok x) = Some (told x)
 by_server told (Err failure) = failed_by failure
 
+-- of a shard, by what it came to under its lock
+abbrev pub by_shard : {X : Type 0}
+    → (X → CallAnswer)
+    → Result X (Failure ShardFault)
+    → Option CallAnswer
+by_shard told result = told_in (λ why. plain (shard_told.Refused why)) told result
+
+-- a pass gains the answer of a call that gives a list: it keeps the list, and its caller sees it
+-- there
+abbrev pub GainsList : (A : Type 0) {X : Type 0}
+    → Bool
+    → ℕ
+    → NodeEvent
+    → (X → List A → CallAnswer)
+    → Result X (Failure NodeFault)
+    → List Call
+    → List Call
+    → Type 0
+GainsList A keep lock event told (Ok x) old new =
+    (list : List A) × GainsOne keep lock event (told x list) old new
+GainsList A keep lock event told (Err failure) old new =
+    Gains keep lock event (failed_by failure) old new
+
 -- ---- what is owed: what was asked, and what was answered, if only a refusal
 
 abbrev pub call_of_hub : ℕ → HubEntry → Call
 call_of_hub place entry = call 0 place (event_of_hub entry.event) (Hub entry.told)
 
-abbrev pub call_of_shard : ℕ → ℕ → ShardEntry → Call
-call_of_shard shard place entry =
-    call shard place (event_of_shard shard entry.event) (Shard entry.told)
+-- in this state of the shard
+abbrev pub call_of_shard : ℕ → ℕ → State → ShardEntry → Call
+call_of_shard shard place s entry =
+    call shard place (event_of_shard shard entry.event) (Shard entry.told (lists_at s entry))
 
 -- of what the hub did, from this place on
 abbrev pub owed_by_hub : ℕ → List HubEntry → List Call
@@ -103,22 +139,25 @@ is_told (shard_told.Dropped turn) = true
 is_told shard_told.Drained = true
 is_told (shard_told.Refused why) = true
 
-abbrev pub owed_one : ℕ → ℕ → ShardEntry → List Call
-owed_one shard place entry = cond (is_told entry.told) (call_of_shard shard place entry ∷ []) []
+abbrev pub owed_one : ℕ → ℕ → State → ShardEntry → List Call
+owed_one shard place s entry =
+    cond (is_told entry.told) (call_of_shard shard place s entry ∷ []) []
 
--- of what one shard did, from this place on
-abbrev pub owed_by_shard : ℕ → ℕ → List ShardEntry → List Call
-owed_by_shard shard place [] = []
-owed_by_shard shard place (entry ∷ tape) =
-    owed_one shard place entry ++ owed_by_shard shard (suc place) tape
+-- of what one shard did, from this place and this state on
+abbrev pub owed_by_shard : ℕ → ℕ → State → List ShardEntry → List Call
+owed_by_shard shard place s [] = []
+owed_by_shard shard place s (entry ∷ tape) =
+    owed_one shard place s entry ++ owed_by_shard shard (suc place) (state_behind s entry) tape
 
--- of what all shards did, from this one on
-abbrev pub owed_by_shards : ℕ → List (List ShardEntry) → List Call
-owed_by_shards shard [] = []
-owed_by_shards shard (tape ∷ tapes) = owed_by_shard shard 0 tape ++ owed_by_shards (suc shard) tapes
+-- of what all shards did since their start, from this one on, of so many
+abbrev pub owed_by_shards : ℕ → ℕ → List (List ShardEntry) → List Call
+owed_by_shards shards shard [] = []
+owed_by_shards shards shard (tape ∷ tapes) =
+    owed_by_shard shard 0 (new_shard shard shards) tape
+    ++ owed_by_shards shards (suc shard) tapes
 
 abbrev pub calls_owed : List HubEntry → List (List ShardEntry) → List Call
-calls_owed hub shards = owed_by_hub 0 hub ++ owed_by_shards 1 shards
+calls_owed hub shards = owed_by_hub 0 hub ++ owed_by_shards (length shards) 1 shards
 
 -- ---- what is told
 

@@ -12,10 +12,11 @@
 //! A server (`thread_node`) needs none of it to run: a caller that wants no report makes the server's own calls.
 //!
 //! In reading order: `passes` is what a caller asked and was told, with the server's calls that tell it to a pass
-//! (`hub_calls`, `shard_calls`), and `asking` the events that a pass keeps. `report` is the end, and `issued` names
-//! the publications that it tells of. That what was written down is what callers were told is seen by `asked`,
-//! `passes_told`, `same` and `order`, and that the hub was handed what the shards gave by `handing`. `faults` says
-//! why there is no report.
+//! (`hub_calls`, `shard_calls`), `lists` what a pass keeps of a shard's answer and lends, and `asking` the events that
+//! it keeps. `report` is the end, and `issued` names the publications that it tells of. That what was written down is
+//! what callers were told is seen by `asked`, `passes_told`, `replay`, `same` and `order`, and that the hub was handed
+//! what the shards gave by `handing`. `laws` says that what `replay` does again is what the run did. `faults` says why
+//! there is no report.
 #![tactic(auto)]
 
 mod asked;
@@ -23,13 +24,18 @@ mod asking;
 mod faults;
 mod handing;
 mod issued;
+mod laws;
+mod lists;
 mod order;
 mod passes;
 mod passes_told;
+mod replay;
 mod report;
 mod same;
 
 pub use faults::Unfinished;
 pub use issued::IssuedJob;
+pub use laws::tapes_are_answered;
+pub use lists::AnswerLists;
 pub use passes::{Call, CallAnswer, Pass};
 pub use report::{Report, finish};

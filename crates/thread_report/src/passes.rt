@@ -1,18 +1,22 @@
 //! What each caller asked, and what it was answered: what a pass keeps of each call. The calls themselves are
-//! `hub_calls` and `shard_calls`.
+//! `hub_calls` and `shard_calls`, and `shard_answers` is what shards answer with lists.
 
-ghost use Rattle.std.specs.Prelude.{◌≡◌, ◌<◌, ℕ, [], true, Some, None, cond, IfErr, IfOk, OnOk};
-ghost use Rattle.std.specs.Option.{option_map};
+ghost use Rattle.std.specs.Prelude.{◌≡◌, ◌<◌, ◌-◌, ℕ, [], true, Some, None, cond, length, slice_get, IfErr, IfOk, OnOk};
+ghost use Rattle.std.specs.Option.{option_copied, option_map};
 ghost use Rattle.node_law.specs.declared.events.NodeEvent.{NodeEvent};
-ghost use Rattle.thread_report.specs.Owed.{Gains, IsInOrder, by_server, failed_by};
-ghost use Rattle.thread_report.specs.declared.passes.CallAnswer.TheVariants.{Hub, Shard};
+ghost use Rattle.thread_report.specs.Owed.{Gains, IsInOrder, by_server, by_shard, failed_by, lists_kept, plain};
+ghost use Rattle.thread_report.specs.declared.passes.Call.{Call};
+ghost use Rattle.thread_report.specs.declared.passes.CallAnswer.{CallAnswer};
+ghost use Rattle.thread_report.specs.declared.passes.CallAnswer.TheVariants.{Hub};
 ghost use Rattle.node_threads.specs.declared.shard_entries.ShardTold.{ShardTold};
 ghost use Rattle.thread_node.specs.Told.{of_decision, told_of_shard};
 ghost use Rattle.thread_node.specs.Refusing.{AnswersAt, has_conn, has_shard};
 
 mod hub_calls;
+mod shard_answers;
 mod shard_calls;
 
+use crate::lists::AnswerLists;
 use crate::order::are_rising;
 use node_law::{NodeEvent, NodeFault};
 use node_threads::{NodeName, ShardTold};
@@ -24,11 +28,11 @@ use sub_table::SubTable;
 use subj::{ConnId, Failure};
 use thread_node::{HubSection, HubTold, NO_SHARD, ShardSection, ThreadNode, answered_by_shard};
 
-/// What a call answered, lists in numbers: one of the hub's, or one of a shard's.
-#[derive(Clone, Copy)]
+/// What a call answered: one of the hub's, whose lists are told in numbers; or one of a shard's, with its lists.
+#[derive(Drop)]
 pub enum CallAnswer {
     Hub(HubTold),
-    Shard(ShardTold),
+    Shard { told: ShardTold, lists: AnswerLists },
 }
 
 /// A call: under which lock it was made, the hub's (0) or that of the shard of this number; its place among what is
@@ -48,10 +52,15 @@ pub struct Call {
 /// it was: nothing was done then, and no lock of a shard was taken. It grows before the call is made: so where there
 /// is no memory for that, no call is made, whether it would have been refused or not.
 ///
+/// The lists of a shard's answer (closed subscriptions, entries that are taken) stay with the pass, which lends them
+/// ([`Pass::lists`]): what a caller sees of them is what is compared at the end.
+///
 /// Seen as their list, and how many more it has room for.
 #[derive(Drop)]
 pub struct Pass<N: NodeName> {
     calls: Vec<Call>,
+    /// The last answer, where calls are not written down.
+    unwritten: Option<CallAnswer>,
     of: PhantomData<N>,
     alloc: Global,
 }
@@ -75,9 +84,15 @@ impl<N: NodeName> Pass<N> {
     {
         Pass {
             calls: Vec::new(alloc),
+            unwritten: None,
             of: PhantomData,
             alloc,
         }
+    }
+
+    /// What its copies are made by.
+    fn alloc(&self) -> Global {
+        self.alloc
     }
 
     /// Makes room for one more call, where calls are written down.
@@ -89,6 +104,21 @@ impl<N: NodeName> Pass<N> {
             return Ok(());
         }
         self.calls.reserve(1)
+    }
+
+    /// The lists of the last answer, if a shard gave it: of the last call, where calls are written down.
+    pub fn lists(&self) -> Option<&AnswerLists>
+        ensures { (last : Call)
+            → slice_get self.now.calls (length self.now.calls - 1) ≡ Some last
+            → option_copied result ≡ lists_kept last.told }
+    {
+        match self.calls.as_slice().last() {
+            Some(call) => lists_in(&call.told),
+            None => match &self.unwritten {
+                Some(told) => lists_in(told),
+                None => None,
+            },
+        }
     }
 
     /// Adds a call behind the others, where calls are written down and there is something to tell. Takes no memory.
@@ -107,6 +137,7 @@ impl<N: NodeName> Pass<N> {
     {
         let Some(told) = told else { return };
         if !keep {
+            self.unwritten = Some(told);
             return;
         }
         let Some(event) = event else { return };
@@ -148,11 +179,33 @@ impl<N: NodeName> Pass<N> {
         ensures told { (e : NodeEvent) (answer : X → ShardTold)
             → event ≡ cond keep (Some e) None
             → told ≡ told_of_shard answer done
-            → Gains keep shard e (by_server (λ x. Shard (answer x)) result) self.old.calls
+            → Gains keep shard e (by_server (λ x. plain (answer x)) result) self.old.calls
             self.new.calls }
         ensures answers { AnswersAt true result }
     {
-        self.tell(keep, shard, place, event, answer_of_shard(told));
+        let told = plain_answer(self.alloc(), told);
+        self.tell(keep, shard, place, event, told);
+        answered_by_shard(done)
+    }
+
+    /// The same of a call whose answer has lists, which the pass keeps.
+    fn tell_lists<X>(
+        &mut self,
+        keep: bool,
+        shard: u64,
+        place: usize,
+        event: Option<NodeEvent>,
+        told: Option<CallAnswer>,
+        done: Result<X, Failure<ShardFault>>,
+    ) -> Result<X, Failure<NodeFault>>
+        requires room { keep ≡ true → 0 < self.old.room }
+        ensures told { (e : NodeEvent) (answer : X → CallAnswer)
+            → event ≡ cond keep (Some e) None
+            → told ≡ by_shard answer done
+            → Gains keep shard e (by_server answer result) self.old.calls self.new.calls }
+        ensures answers { AnswersAt true result }
+    {
+        self.tell(keep, shard, place, event, told);
         answered_by_shard(done)
     }
 
@@ -170,7 +223,7 @@ impl<N: NodeName> Pass<N> {
         ensures told { (e : NodeEvent) (answer : X → ShardTold)
             → event ≡ cond keep (Some e) None
             → told ≡ told_of_shard answer (of_decision done)
-            → Gains keep shard e (by_server (λ x. Shard (answer x)) result) self.old.calls
+            → Gains keep shard e (by_server (λ x. plain (answer x)) result) self.old.calls
             self.new.calls }
         ensures answers { AnswersAt true result }
     {
@@ -264,13 +317,26 @@ fn answer_of_hub(told: Option<HubTold>) -> Option<CallAnswer>
     }
 }
 
-/// The same of a shard.
-fn answer_of_shard(told: Option<ShardTold>) -> Option<CallAnswer>
-    ensures { result ≡ option_map (λ t. Shard t) told }
+/// The same of a shard, whose answer has no lists.
+fn plain_answer(alloc: Global, told: Option<ShardTold>) -> Option<CallAnswer>
+    ensures { result ≡ option_map (λ t. plain t) told }
 {
     match told {
         None => None,
-        Some(told) => Some(CallAnswer::Shard(told)),
+        Some(told) => Some(CallAnswer::Shard {
+            told,
+            lists: AnswerLists::none(alloc),
+        }),
+    }
+}
+
+/// The lists of an answer, if a shard gave it.
+fn lists_in(told: &CallAnswer) -> Option<&AnswerLists>
+    ensures { option_copied result ≡ lists_kept told.now }
+{
+    match told {
+        CallAnswer::Hub(_) => None,
+        CallAnswer::Shard { lists, .. } => Some(lists),
     }
 }
 

@@ -1,19 +1,28 @@
 //! Whether the passes of all callers tell what was written down.
 
-ghost use Rattle.std.specs.Prelude.{◌≡◌, ◌++◌, true, All, IfOk, IfSome, flat_map, map};
+ghost use Rattle.std.specs.Prelude.{◌≡◌, ◌++◌, ◌≤◌, true, All, IfOk, IfSome, flat_map, length, map};
+ghost use Rattle.subj.specs.declared.limits.TheConstants.{MAX_SHARDS as most_shards};
+ghost use Rattle.shard_core.specs.Shards.{State, new_shard};
+ghost use Rattle.thread_report.specs.Answered.{lists_at, state_behind};
 ghost use Rattle.thread_report.specs.Owed.{AreTold, IsInOrder, call_of_hub, call_of_shard, calls_owed, owed_by_hub, owed_by_shard, owed_by_shards, owed_one};
 
 use crate::asked::{is_of_hub, is_of_shard};
 use crate::faults::Unfinished;
+use crate::lists::AnswerLists;
 use crate::passes::{Call, Pass};
+use crate::replay::again;
 use crate::same::{is_told_by_hub, is_told_by_shard};
 use node_threads::{NodeName, ShardEntry, ShardTold};
-use std::alloc::Global;
+use shard_core::Shard;
+use std::alloc::{AllocError, Global};
+use sub_table::SubTable;
+use subj::MAX_SHARDS;
 use thread_node::HubEntry;
 
 /// Whether the passes tell each step that a caller made and each refusal, once, and nothing else, those of one caller
-/// under one lock in order; or nothing was to be written down. An `Err` is [`Unfinished::OutOfMemory`].
-pub(crate) fn are_told<N: NodeName>(
+/// under one lock in order; or nothing was to be written down. Each shard does again what stands on its tape: so the
+/// lists of its answers are compared whole. An `Err` is [`Unfinished::OutOfMemory`], or [`Unfinished::Untold`] too.
+pub(crate) fn are_told<T: SubTable, N: NodeName>(
     alloc: Global,
     keep: bool,
     passes: Vec<Pass<N>>,
@@ -28,11 +37,11 @@ pub(crate) fn are_told<N: NodeName>(
     if !keep {
         return Ok(true);
     }
-    tell(alloc, passes, hub, worked)
+    tell::<T, N>(alloc, passes, hub, worked)
 }
 
 /// The same where it was to be written down.
-fn tell<N: NodeName>(
+fn tell<T: SubTable, N: NodeName>(
     alloc: Global,
     passes: Vec<Pass<N>>,
     hub: &[HubEntry],
@@ -47,7 +56,7 @@ fn tell<N: NodeName>(
     let mut told = all_calls(alloc, passes)?;
     told.as_mut_slice()
         .sort_unstable_by_key(|call| (call.lock, call.place));
-    Ok(are_owed(told.as_slice(), hub, worked))
+    are_owed::<T>(alloc, told.as_slice(), hub, worked)
 }
 
 /// Whether each pass has its calls under each lock in order.
@@ -70,17 +79,21 @@ fn all_calls<N: NodeName>(alloc: Global, passes: Vec<Pass<N>>) -> Result<Vec<Cal
 
 /// Whether these calls are what callers have to tell of all that was written down, in order: what was asked, and what
 /// was answered or refused.
-fn are_owed(calls: &[Call], hub: &[HubEntry], worked: &[Vec<ShardEntry>]) -> bool
-    ensures { result ≡ true
-        → calls.now ≡ calls_owed hub.now (map (λ entries. entries.items) worked.now) }
+fn are_owed<T: SubTable>(
+    alloc: Global,
+    calls: &[Call],
+    hub: &[HubEntry],
+    worked: &[Vec<ShardEntry>],
+) -> Result<bool, Unfinished>
+    ensures { IfOk result (λ owed.
+        owed ≡ true
+        → calls.now ≡ calls_owed hub.now (map (λ entries. entries.items) worked.now)) }
 {
     let Some(rest) = behind_hub(calls, hub) else {
-        return false;
+        return Ok(false);
     };
-    let Some(rest) = behind_shards(rest, worked) else {
-        return false;
-    };
-    rest.is_empty()
+    let rest = behind_shards::<T>(alloc, rest, worked)?;
+    Ok(rest.is_empty())
 }
 
 /// The calls behind those that tell of what the hub did and refused. None where others stand there.
@@ -98,46 +111,75 @@ fn behind_hub<'a>(calls: &'a [Call], tape: &[HubEntry]) -> Option<&'a [Call]>
     Some(rest)
 }
 
-/// The same of all shards.
-fn behind_shards<'a>(calls: &'a [Call], worked: &[Vec<ShardEntry>]) -> Option<&'a [Call]>
-    ensures { IfSome result (λ rest.
-        calls.now ≡ owed_by_shards 1 (map (λ entries. entries.items) worked.now) ++ rest.now) }
+/// The same of all shards. [`Unfinished::Untold`] where others stand there.
+fn behind_shards<'a, T: SubTable>(
+    alloc: Global,
+    calls: &'a [Call],
+    worked: &[Vec<ShardEntry>],
+) -> Result<&'a [Call], Unfinished>
+    ensures { IfOk result (λ rest.
+        calls.now
+        ≡ owed_by_shards (length worked.now) 1 (map (λ entries. entries.items) worked.now)
+        ++ rest.now) }
 {
+    let shards = worked.len() as u64;
+    if shards > MAX_SHARDS {
+        return Err(Unfinished::Untold);
+    }
     let mut rest = calls;
     for place in 0..worked.len() {
-        rest = behind_shard(rest, place as u64 + 1, worked[place].as_slice())?;
+        let number = place as u64 + 1;
+        rest = behind_shard::<T>(alloc, rest, number, shards, worked[place].as_slice())?;
     }
-    Some(rest)
+    Ok(rest)
 }
 
-/// The same of one shard.
-fn behind_shard<'a>(calls: &'a [Call], shard: u64, tape: &[ShardEntry]) -> Option<&'a [Call]>
-    ensures { IfSome result (λ rest. calls.now ≡ owed_by_shard shard 0 tape.now ++ rest.now) }
+/// The same of the shard of this number, of so many.
+fn behind_shard<'a, T: SubTable>(
+    alloc: Global,
+    calls: &'a [Call],
+    number: u64,
+    shards: u64,
+    tape: &[ShardEntry],
+) -> Result<&'a [Call], Unfinished>
+    requires first { 1 ≤ number }
+    requires last { number ≤ shards }
+    requires few { shards ≤ most_shards }
+    ensures { IfOk result (λ rest.
+        calls.now ≡ owed_by_shard number 0 (new_shard number shards) tape.now ++ rest.now) }
 {
+    let mut shard: Shard<T> = Shard::new(alloc, number, shards)?;
     let mut rest = calls;
     for place in 0..tape.len() {
-        rest = behind_one(rest, shard, place, &tape[place])?;
+        rest = behind_one(alloc, &mut shard, rest, number, place, &tape[place])?;
     }
-    Some(rest)
+    Ok(rest)
 }
 
-/// The same of one entry of a shard.
-fn behind_one<'a>(
+/// The same of one entry of the shard, which does it again.
+fn behind_one<'a, T: SubTable>(
+    alloc: Global,
+    shard: &mut Shard<T>,
     calls: &'a [Call],
-    shard: u64,
+    number: u64,
     place: usize,
     entry: &ShardEntry,
-) -> Option<&'a [Call]>
-    ensures { IfSome result (λ rest. calls.now ≡ owed_one shard place entry.now ++ rest.now) }
+) -> Result<&'a [Call], Unfinished>
+    ensures told { IfOk result (λ rest.
+        calls.now ≡ owed_one number place shard.old.state entry.now ++ rest.now) }
+    ensures state { IfOk result (λ _. shard.new.state ≡ state_behind shard.old.state entry.now) }
 {
+    let lists = again(alloc, shard, entry)?;
     if matches!(entry.told, ShardTold::Work) {
-        return Some(calls);
+        return Ok(calls);
     }
-    let (call, rest) = calls.split_first()?;
-    if is_by_shard(call, shard, place, entry) {
-        Some(rest)
+    let Some((call, rest)) = calls.split_first() else {
+        return Err(Unfinished::Untold);
+    };
+    if is_by_shard(alloc, call, number, place, entry, &lists)? {
+        Ok(rest)
     } else {
-        None
+        Err(Unfinished::Untold)
     }
 }
 
@@ -151,12 +193,26 @@ fn is_by_hub(call: &Call, place: usize, entry: &HubEntry) -> bool
         && is_of_hub(&call.event, &entry.event)
 }
 
-/// Whether the call tells of this entry of the shard of this number, at its place.
-fn is_by_shard(call: &Call, shard: u64, place: usize, entry: &ShardEntry) -> bool
-    ensures { result ≡ true → call.now ≡ call_of_shard shard place entry.now }
+/// Whether the call tells of this entry of the shard of this number, at its place, and of these lists.
+fn is_by_shard(
+    alloc: Global,
+    call: &Call,
+    number: u64,
+    place: usize,
+    entry: &ShardEntry,
+    lists: &AnswerLists,
+) -> Result<bool, AllocError>
+    ensures { IfOk result (λ same.
+        (s : State)
+        → same ≡ true
+        → lists.now ≡ lists_at s entry.now
+        → call.now ≡ call_of_shard number place s entry.now) }
 {
-    call.lock == shard
-        && call.place == place
-        && is_told_by_shard(&call.told, &entry.told)
-        && is_of_shard(&call.event, shard, &entry.event)
+    let is_told = is_told_by_shard(alloc, &call.told, &entry.told, lists)?;
+    Ok(
+        is_told
+            && call.lock == number
+            && call.place == place
+            && is_of_shard(&call.event, number, &entry.event),
+    )
 }

@@ -34,7 +34,7 @@ use thread_node::{HubEntry, LockedShard, ThreadNode};
 /// What a server has done.
 #[derive(Drop)]
 pub struct Report {
-    /// The last turn issued.
+    /// The last turn issued; it is told where nothing was written down, too.
     pub issued: Turn,
     /// The publications that were issued, in order of turns: one a turn; nothing where nothing was written down.
     pub jobs: Vec<IssuedJob>,
@@ -208,7 +208,7 @@ fn reported<T: SubTable, N: NodeName, R: Wait>(
 }
 
 /// Compares what was written down of the hub with what was of the shards, and then with the passes.
-fn compare<N: NodeName>(
+fn compare<T: SubTable, N: NodeName>(
     alloc: Global,
     keep: bool,
     passes: Vec<Pass<N>>,
@@ -223,7 +223,7 @@ fn compare<N: NodeName>(
     if let Some(number) = torn_shard(alloc, keep, hub, worked)? {
         return Err(Unfinished::Torn(number));
     }
-    if !are_told(alloc, keep, passes, hub, worked)? {
+    if !are_told::<T, N>(alloc, keep, passes, hub, worked)? {
         return Err(Unfinished::Untold);
     }
     Ok(())
@@ -241,7 +241,9 @@ fn compare<N: NodeName>(
 /// answered, each refusal too, and nothing else; and those of one caller under one lock stand in order. Each refusal
 /// has the cause that the hub or the shard had in the state in which it refused.
 ///
-/// The server is given up for want of memory too. May wait.
+/// The lists of a shard's answers are told whole, those of the hub's in numbers. The tapes have both in numbers: so a
+/// new shard does again what stands on the tape of each, which takes about the time of the steps, and as much memory
+/// as that shard. The server is given up for want of memory too. May wait.
 pub fn finish<T: SubTable, N: NodeName, R: Wait>(
     rt: &R,
     alloc: Global,
@@ -270,7 +272,7 @@ pub fn finish<T: SubTable, N: NodeName, R: Wait>(
         × ArePlaced report.kept runs (map (λ entries. entries.items) report.worked.items)) }
 {
     let report = reported(rt, alloc, node)?;
-    compare(
+    compare::<T, N>(
         alloc,
         report.kept,
         passes,

@@ -1,10 +1,12 @@
 //! Whether what a pass tells of an answer is what stands on a tape.
 
-ghost use Rattle.std.specs.Prelude.{◌≡◌, true};
+ghost use Rattle.std.specs.Prelude.{◌≡◌, true, IfOk};
 ghost use Rattle.thread_report.specs.declared.passes.CallAnswer.TheVariants.{Hub, Shard};
 
+use crate::lists::AnswerLists;
 use crate::passes::CallAnswer;
 use node_threads::ShardTold;
+use std::alloc::{AllocError, Global};
 use thread_node::HubTold;
 use value_equality::{is_same_connect, is_same_info};
 
@@ -14,17 +16,28 @@ pub(crate) fn is_told_by_hub(told: &CallAnswer, written: &HubTold) -> bool
 {
     match told {
         CallAnswer::Hub(told) => is_same_of_hub(told, written),
-        CallAnswer::Shard(_) => false,
+        CallAnswer::Shard { .. } => false,
     }
 }
 
-/// Whether it is what a shard told.
-pub(crate) fn is_told_by_shard(told: &CallAnswer, written: &ShardTold) -> bool
-    ensures { result ≡ true → told.now ≡ Shard written.now }
+/// Whether it is what a shard told, with these lists.
+pub(crate) fn is_told_by_shard(
+    alloc: Global,
+    told: &CallAnswer,
+    written: &ShardTold,
+    lists: &AnswerLists,
+) -> Result<bool, AllocError>
+    ensures { IfOk result (λ same. same ≡ true → told.now ≡ Shard written.now lists.now) }
 {
     match told {
-        CallAnswer::Hub(_) => false,
-        CallAnswer::Shard(told) => told == written,
+        CallAnswer::Hub(_) => Ok(false),
+        CallAnswer::Shard { told, lists: given } => {
+            if told == written {
+                given.are_same(alloc, lists)
+            } else {
+                Ok(false)
+            }
+        }
     }
 }
 

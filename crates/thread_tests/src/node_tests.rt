@@ -537,8 +537,8 @@ fn told_take_count<N: NodeName, R: Abort + Wait>(
     shard: u64,
     conn: ConnId,
 ) -> u64 {
-    let entries = pass.take(rt, node, shard, conn, usize::MAX).ok();
-    entries.expect(rt, "entries").len() as u64
+    assert!(rt; pass.take(rt, node, shard, conn, usize::MAX).is_ok());
+    pass.lists().expect(rt, "lists").taken().len() as u64
 }
 
 /// So many publications to a member in the first and one in the last shard, which takes headers, worked by a thread each; then all is

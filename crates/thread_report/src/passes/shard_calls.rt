@@ -1,7 +1,10 @@
 //! What callers ask of a shard.
 
 ghost use Rattle.std.specs.Prelude.{◌≡◌, IfOk, Some, None, cond, length};
-ghost use Rattle.thread_report.specs.Owed.{Gains, by_server};
+ghost use Rattle.outbox.specs.Views.{Written};
+ghost use Rattle.subj.specs.declared.identities.SubId.{SubId as ClosedSub};
+ghost use Rattle.thread_report.specs.Answered.{closed_lists, taken_lists};
+ghost use Rattle.thread_report.specs.Owed.{Gains, GainsList, by_server, plain};
 ghost use Rattle.thread_report.specs.declared.passes.CallAnswer.TheVariants.{Shard};
 ghost use Rattle.shard_core.specs.Answers.{answer_of};
 ghost use Rattle.node_law.specs.declared.events.ConnEvent.TheVariants as of_conn;
@@ -13,19 +16,19 @@ ghost use Rattle.node_threads.specs.declared.shard_entries.ShardTold.TheVariants
 ghost use Rattle.thread_node.specs.Refusing.{AnswersAt, has_conn, has_shard};
 
 use super::Pass;
+use super::shard_answers::{detached, replied, taken, was_shut};
 use crate::asking::{conn_event_if, event_if, reply_event, subscribe_event, unsubscribe_event};
 use client_frames::{ErrText, ReplyFrame};
 use node_law::{ConnEvent, NodeEvent, NodeFault, OwnEvent, ShardWork};
 use node_threads::NodeName;
-use outbox::Entry;
-use shard_core::{Closed, ShardFault, Subscribed};
+use shard_core::{ShardFault, Subscribed};
 use std::alloc::{AllocError, Global};
 use std::sync::Wait;
 use sub_table::SubTable;
 use subj::{ConnId, Failure, Key, Sid, SubId, Turn};
 use thread_node::{
-    LockedShard, ThreadNode, told_attached, told_detached, told_drained, told_dropped,
-    told_headers, told_replied, told_shut, told_subscribed, told_taken, told_unsubscribed,
+    LockedShard, ThreadNode, told_attached, told_drained, told_dropped, told_headers,
+    told_subscribed, told_unsubscribed,
 };
 
 /// Subscribes under the lock of the shard; what was asked comes along, where calls are written down.
@@ -54,7 +57,7 @@ impl<N: NodeName> Pass<N> {
         shard: u64,
     ) -> Result<(), Failure<NodeFault>>
         ensures told { Gains N.keep shard (Own (own.AtShard shard work.DrainShard))
-            (by_server (λ _. Shard shard_told.Drained) result) self.old.calls self.new.calls }
+            (by_server (λ _. plain shard_told.Drained) result) self.old.calls self.new.calls }
         ensures answers { AnswersAt (has_shard N.race shard) result }
     {
         let keep = node.keeps_tapes();
@@ -79,7 +82,7 @@ impl<N: NodeName> Pass<N> {
         shard: u64,
     ) -> Result<ConnId, Failure<NodeFault>>
         ensures told { Gains N.keep shard (Own (own.AtShard shard work.Attach))
-            (by_server (λ conn. Shard (shard_told.Attached conn)) result) self.old.calls
+            (by_server (λ conn. plain (shard_told.Attached conn)) result) self.old.calls
             self.new.calls }
         ensures answers { AnswersAt (has_shard N.race shard) result }
     {
@@ -108,7 +111,7 @@ impl<N: NodeName> Pass<N> {
         sid: Sid,
     ) -> Result<Subscribed, Failure<NodeFault>>
         ensures told { Gains N.keep shard (Own (own.OfConn conn (of_conn.Subscribe key sid)))
-            (by_server (λ done. Shard (told_of (answer_of done))) result) self.old.calls
+            (by_server (λ done. plain (told_of (answer_of done))) result) self.old.calls
             self.new.calls }
         ensures answers { AnswersAt (has_conn N.race shard conn) result }
     {
@@ -130,7 +133,7 @@ impl<N: NodeName> Pass<N> {
         max: Option<u64>,
     ) -> Result<Option<SubId>, Failure<NodeFault>>
         ensures told { Gains N.keep shard (Own (own.OfConn conn (of_conn.Unsubscribe sid.now max)))
-            (by_server (λ ended. Shard (shard_told.Unsubscribed ended)) result) self.old.calls
+            (by_server (λ ended. plain (shard_told.Unsubscribed ended)) result) self.old.calls
             self.new.calls }
         ensures answers { AnswersAt (has_conn N.race shard conn) result }
     {
@@ -142,7 +145,8 @@ impl<N: NodeName> Pass<N> {
         self.tell_decided(keep, shard, place, event, told_unsubscribed(&done), done)
     }
 
-    /// [`ThreadNode::reply`]. May wait.
+    /// [`ThreadNode::reply`]: whether the connection was shut for want of room. [`Pass::lists`] has the subscriptions
+    /// that closed with it. May wait.
     pub fn reply<T: SubTable, R: Wait>(
         &mut self,
         rt: &R,
@@ -150,19 +154,19 @@ impl<N: NodeName> Pass<N> {
         shard: u64,
         conn: ConnId,
         frame: &ReplyFrame,
-    ) -> Result<Closed, Failure<NodeFault>>
-        ensures told { Gains N.keep shard (Own (own.OfConn conn (of_conn.Reply frame.now)))
-            (by_server
-            (λ closed. Shard (shard_told.Replied closed.shut (length closed.ended.items))) result)
-            self.old.calls self.new.calls }
+    ) -> Result<bool, Failure<NodeFault>>
+        ensures told { GainsList ClosedSub N.keep shard
+            (Own (own.OfConn conn (of_conn.Reply frame.now)))
+            (λ shut ended. Shard (shard_told.Replied shut (length ended)) (closed_lists ended))
+            result self.old.calls self.new.calls }
         ensures answers { AnswersAt (has_conn N.race shard conn) result }
     {
         let keep = node.keeps_tapes();
         let (mut locked, place) = self.enter_conn(rt, node, shard, conn)?;
         let event = reply_event(keep, conn, frame)?;
-        let done = locked.reply(conn, frame);
+        let (told, done) = replied(self.alloc, locked.reply(conn, frame));
         drop(locked);
-        self.tell_shard(keep, shard, place, event, told_replied(&done), done)
+        self.tell_lists(keep, shard, place, event, told, done)
     }
 
     /// [`ThreadNode::set_headers`]. May wait.
@@ -175,7 +179,7 @@ impl<N: NodeName> Pass<N> {
         on: bool,
     ) -> Result<(), Failure<NodeFault>>
         ensures told { Gains N.keep shard (Own (own.OfConn conn (of_conn.SetHeaders on)))
-            (by_server (λ _. Shard shard_told.HeadersSet) result) self.old.calls self.new.calls }
+            (by_server (λ _. plain shard_told.HeadersSet) result) self.old.calls self.new.calls }
         ensures answers { AnswersAt (has_conn N.race shard conn) result }
     {
         let keep = node.keeps_tapes();
@@ -186,7 +190,7 @@ impl<N: NodeName> Pass<N> {
         self.tell_decided(keep, shard, place, event, told_headers(&done), done)
     }
 
-    /// [`ThreadNode::shut`]. May wait.
+    /// [`ThreadNode::shut`]; [`Pass::lists`] has the subscriptions that closed. May wait.
     pub fn shut<T: SubTable, R: Wait>(
         &mut self,
         rt: &R,
@@ -194,42 +198,42 @@ impl<N: NodeName> Pass<N> {
         shard: u64,
         conn: ConnId,
         text: ErrText,
-    ) -> Result<Vec<SubId>, Failure<NodeFault>>
-        ensures told { Gains N.keep shard (Own (own.OfConn conn (of_conn.Shut text)))
-            (by_server (λ ended. Shard (shard_told.WasShut (length ended.items))) result)
+    ) -> Result<(), Failure<NodeFault>>
+        ensures told { GainsList ClosedSub N.keep shard (Own (own.OfConn conn (of_conn.Shut text)))
+            (λ _ ended. Shard (shard_told.WasShut (length ended)) (closed_lists ended)) result
             self.old.calls self.new.calls }
         ensures answers { AnswersAt (has_conn N.race shard conn) result }
     {
         let keep = node.keeps_tapes();
         let (mut locked, place) = self.enter_conn(rt, node, shard, conn)?;
-        let done = locked.shut(conn, text);
+        let (told, done) = was_shut(self.alloc, locked.shut(conn, text));
         drop(locked);
         let event = conn_event_if(keep, conn, ConnEvent::Shut { text });
-        self.tell_shard(keep, shard, place, event, told_shut(&done), done)
+        self.tell_lists(keep, shard, place, event, told, done)
     }
 
-    /// [`ThreadNode::detach`]. May wait.
+    /// [`ThreadNode::detach`]; [`Pass::lists`] has the subscriptions that closed. May wait.
     pub fn detach<T: SubTable, R: Wait>(
         &mut self,
         rt: &R,
         node: &ThreadNode<T, N>,
         shard: u64,
         conn: ConnId,
-    ) -> Result<Vec<SubId>, Failure<NodeFault>>
-        ensures told { Gains N.keep shard (Own (own.OfConn conn of_conn.Detach))
-            (by_server (λ ended. Shard (shard_told.Detached (length ended.items))) result)
+    ) -> Result<(), Failure<NodeFault>>
+        ensures told { GainsList ClosedSub N.keep shard (Own (own.OfConn conn of_conn.Detach))
+            (λ _ ended. Shard (shard_told.Detached (length ended)) (closed_lists ended)) result
             self.old.calls self.new.calls }
         ensures answers { AnswersAt (has_conn N.race shard conn) result }
     {
         let keep = node.keeps_tapes();
         let (mut locked, place) = self.enter_conn(rt, node, shard, conn)?;
-        let done = locked.detach(conn);
+        let (told, done) = detached(self.alloc, locked.detach(conn));
         drop(locked);
         let event = conn_event_if(keep, conn, ConnEvent::Detach);
-        self.tell_shard(keep, shard, place, event, told_detached(&done), done)
+        self.tell_lists(keep, shard, place, event, told, done)
     }
 
-    /// [`ThreadNode::take`]. May wait.
+    /// [`ThreadNode::take`]; [`Pass::lists`] has the entries. May wait.
     pub fn take<T: SubTable, R: Wait>(
         &mut self,
         rt: &R,
@@ -237,18 +241,18 @@ impl<N: NodeName> Pass<N> {
         shard: u64,
         conn: ConnId,
         count: usize,
-    ) -> Result<Vec<Entry>, Failure<NodeFault>>
-        ensures told { Gains N.keep shard (Own (own.OfConn conn (of_conn.Take count)))
-            (by_server (λ entries. Shard (shard_told.Taken (length entries.items))) result)
+    ) -> Result<(), Failure<NodeFault>>
+        ensures told { GainsList Written N.keep shard (Own (own.OfConn conn (of_conn.Take count)))
+            (λ _ entries. Shard (shard_told.Taken (length entries)) (taken_lists entries)) result
             self.old.calls self.new.calls }
         ensures answers { AnswersAt (has_conn N.race shard conn) result }
     {
         let keep = node.keeps_tapes();
         let (mut locked, place) = self.enter_conn(rt, node, shard, conn)?;
-        let done = locked.take(conn, count);
+        let (told, done) = taken(self.alloc, locked.take(conn, count));
         drop(locked);
         let event = conn_event_if(keep, conn, ConnEvent::Take { count });
-        self.tell_shard(keep, shard, place, event, told_taken(&done), done)
+        self.tell_lists(keep, shard, place, event, told, done)
     }
 
     /// [`ThreadNode::drop_job`]. May wait.
@@ -259,7 +263,7 @@ impl<N: NodeName> Pass<N> {
         shard: u64,
     ) -> Result<Turn, Failure<NodeFault>>
         ensures told { Gains N.keep shard (Own (own.AtShard shard work.DropJob))
-            (by_server (λ turn. Shard (shard_told.Dropped (Some turn))) result) self.old.calls
+            (by_server (λ turn. plain (shard_told.Dropped (Some turn))) result) self.old.calls
             self.new.calls }
         ensures answers { AnswersAt (has_shard N.race shard) result }
     {

@@ -3,15 +3,19 @@ use Rattle.node_law.specs.declared.events.ConnEvent.TheVariants as of_conn
 use Rattle.node_law.specs.declared.events.NodeEvent.TheVariants.{Own}
 use Rattle.node_law.specs.declared.events.OwnEvent.TheVariants as own
 use Rattle.node_threads.specs.declared.shard_entries.ShardTold.TheVariants as shard_told
-use Rattle.thread_report.proofs.Telling.{shard_gains}
+use Rattle.thread_report.specs.Answered.{closed_lists}
+use Rattle.thread_report.specs.declared.passes.CallAnswer.TheVariants.{Shard}
+use Rattle.thread_report.proofs.Telling.{list_gains}
 use Rattle.thread_report.proofs.passes.Pass.detach.Goals as goal
 
 pub returns-clause-told : goal.returns-clause-told
 returns-clause-told g c =
     let e = Own (own.OfConn c.args.conn of_conn.Detach) in
-    let made = c.tell_shard in
-    let told = made.ensures.told e (λ ended. shard_told.Detached (length ended.items)) c.conn_event_if-event.ensures
-    c.told_detached.ensures in
-    shard_gains c.keeps_tapes-keep.result g.N.NodeName.keep c.args.shard e
-    (λ ended. shard_told.Detached (length ended.items)) made.result c.args.self.now.calls c.enter_conn.new.self.calls
-    made.new.self.calls c.keeps_tapes-keep.ensures c.in_ok-locked.ensures.same told
+    let list = c.detached-told.ensures.told.0 in
+    let made = c.tell_lists in
+    let told = made.ensures.told e (λ x. Shard (shard_told.Detached (length list)) (closed_lists list))
+    c.conn_event_if-event.ensures
+    c.detached-told.ensures.told.1 in
+    list_gains c.keeps_tapes-keep.result g.N.NodeName.keep c.args.shard e
+    (λ x all. Shard (shard_told.Detached (length all)) (closed_lists all)) list made.result c.args.self.now.calls
+    c.enter_conn.new.self.calls made.new.self.calls c.keeps_tapes-keep.ensures c.in_ok-locked.ensures.same told
