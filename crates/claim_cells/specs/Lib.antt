@@ -1,4 +1,5 @@
--- the rule of the race: it holds between any two steps, over the words and over the parts of all seats
+-- the rule of the race: it holds between any two steps, over the words and over the parts of all
+-- seats
 pub mod Rule
 -- what each step on the words tells the seat that makes it
 pub mod Steps

@@ -23,14 +23,20 @@ wins_in [] = []
 wins_in (p ∷ parts) = wins_of p ++ wins_in parts
 
 abbrev pub race_of_seat : {S : Type 0} → Me S View → RaceState
-race_of_seat m = record { issued = (hub_of m).issued; finished = finished_in m.0.shards; next = next_in m.0.shards; won = wins_in m.0.shards }
+race_of_seat m = record {
+  issued = (hub_of m).issued;
+  finished = finished_in m.0.shards;
+  next = next_in m.0.shards;
+  won = wins_in m.0.shards;
+}
 
 -- the seat has all parts
 abbrev pub IsWhole : {S : Type 0} → Me S View → Type 0
 IsWhole m = HasAll m.0 × HasHub m × (m.1 ≡ [])
 
 -- the fields of a race on one seat
-pub record IsOneSeat {S : Type 0} (cells seat : RaceId) (m : Me S View) (issued : ℕ) (turns : List ℕ) : Type 0 where
+pub record IsOneSeat {S : Type 0} (cells seat : RaceId) (m : Me S View) (issued : ℕ)
+    (turns : List ℕ) : Type 0 where
   pub whole : IsWhole m
   pub same : seat ≡ cells
   pub last : (hub_of m).issued ≡ issued

@@ -1,4 +1,5 @@
--- The rule of the race (profile): it holds between any two steps, over the words and over the parts of all seats.
+-- The rule of the race (profile): it holds between any two steps, over the words and over the parts
+-- of all seats.
 use Rattle.std.specs.Prelude.{◌≡◌, ℕ, zero, suc, ◌+◌, ◌-◌, ◌*◌, ◌%◌, ◌<◌, ◌≤◌, ◌≢◌, ◌⊎◌, List, [], ◌∷◌, ◌++◌, length, slice_index, Some, None}
 use mathlib.Core.Option.{some}
 use lib.ListN.{get_elem?}
@@ -28,7 +29,12 @@ fresh_hub = record { issued = 0; loads = [] }
 
 -- the view of the first seat, which has all parts
 abbrev pub whole_view : ℕ → View
-whole_view count = record { hub = Some fresh_hub; shards = newcomers 1 count; at = 0; count = count }
+whole_view count = record {
+  hub = Some fresh_hub;
+  shards = newcomers 1 count;
+  at = 0;
+  count = count;
+}
 
 abbrev pub rest_parts : List ShardPart → List ShardPart
 rest_parts [] = []
@@ -52,9 +58,13 @@ joined_view v w = record { hub = v.hub; shards = v.shards ++ w.shards; at = 0; c
 abbrev pub spent_view : View
 spent_view = record { hub = None; shards = []; at = 0; count = 0 }
 
--- the pairs of a list are of turns issued and up to the one behind the finished turn, in which they stand below the next index
+-- the pairs of a list are of turns issued and up to the one behind the finished turn, in which they
+-- stand below the next index
 abbrev pub InTurn : ℕ → ℕ → ShardPart → List (ℕ × ℕ) → Type 0
-InTurn names issued p pairs = (t x : ℕ) → Has pairs (t, x) → (t ≤ p.finished + 1) × (t ≤ issued) × (x < names) × (t ≡ p.finished + 1 → x < p.next)
+InTurn names issued p pairs =
+    (t x : ℕ)
+    → Has pairs (t, x)
+    → (t ≤ p.finished + 1) × (t ≤ issued) × (x < names) × (t ≡ p.finished + 1 → x < p.next)
 
 -- What holds of the parts alone. They stand in the order of the shards.
 pub record Law (limit window names : ℕ) (hub : HubPart) (all : List ShardPart) : Type 0 where
@@ -73,9 +83,17 @@ pub record Law (limit window names : ℕ) (hub : HubPart) (all : List ShardPart)
   pub won : (s : ℕ) (p : ShardPart) → At all s p → InTurn names hub.issued p p.won
   pub lost : (s : ℕ) (p : ShardPart) → At all s p → InTurn names hub.issued p p.lost
   -- no pair stands in two won lists, or twice in one
-  pub once : (s r i j : ℕ) (p q : ShardPart) (pair : ℕ × ℕ) → At all s p → At all r q → At p.won i pair → At q.won j pair → (s ≡ r) × (i ≡ j)
+  pub once : (s r i j : ℕ) (p q : ShardPart) (pair : ℕ × ℕ)
+      → At all s p
+      → At all r q
+      → At p.won i pair
+      → At q.won j pair
+      → (s ≡ r) × (i ≡ j)
   -- each lost pair stands in the won list of another part
-  pub others : (s : ℕ) (p : ShardPart) (pair : ℕ × ℕ) → At all s p → Has p.lost pair → (r : ℕ) × (q : ShardPart) × (r ≢ s) × At all r q × Has q.won pair
+  pub others : (s : ℕ) (p : ShardPart) (pair : ℕ × ℕ)
+      → At all s p
+      → Has p.lost pair
+      → (r : ℕ) × (q : ShardPart) × (r ≢ s) × At all r q × Has q.won pair
 
 -- the place of a pair among the claim words
 abbrev pub cell : ℕ → ℕ → ℕ → ℕ → ℕ
@@ -83,17 +101,26 @@ cell window names t x = t % window * names + x
 
 -- a claim word is 0, or the turn of a pair won there
 abbrev pub IsCell : ℕ → ℕ → List ShardPart → ℕ → ℕ → Type 0
-IsCell window names all c n = (n ≡ 0) ⊎ ((x s : ℕ) × (p : ShardPart) × At all s p × Has p.won (n, x) × (cell window names n x ≡ c))
+IsCell window names all c n =
+    (n ≡ 0)
+    ⊎ ((x s : ℕ) × (p : ShardPart) × At all s p × Has p.won (n, x) × (cell window names n x ≡ c))
 
--- What the words say of the parts: the last turn issued, each shard's last finished turn, and the claim words. The number of shards is told by that of the words.
-pub record Words (window names count : ℕ) (words : List ℕ) (hub : HubPart) (all : List ShardPart) : Type 0 where
+-- What the words say of the parts: the last turn issued, each shard's last finished turn, and the
+-- claim words. The number of shards is told by that of the words.
+pub record Words (window names count : ℕ) (words : List ℕ) (hub : HubPart) (all : List ShardPart) :
+    Type 0 where
   pub width : length words ≡ count + 1 + window * names
   pub shards : length all ≡ count
   pub issued : slice_index words 0 ≡ hub.issued
   pub finished : (s : ℕ) (p : ShardPart) → At all s p → slice_index words (s + 1) ≡ p.finished
   -- no won pair is above its word, so the word has the greatest turn won there
-  pub greatest : (s t x : ℕ) (p : ShardPart) → At all s p → Has p.won (t, x) → t ≤ slice_index words (count + 1 + cell window names t x)
-  pub cells : (c : ℕ) → c < window * names → IsCell window names all c (slice_index words (count + 1 + c))
+  pub greatest : (s t x : ℕ) (p : ShardPart)
+      → At all s p
+      → Has p.won (t, x)
+      → t ≤ slice_index words (count + 1 + cell window names t x)
+  pub cells : (c : ℕ)
+      → c < window * names
+      → IsCell window names all c (slice_index words (count + 1 + c))
 
 -- the place of a part among all
 abbrev pub row : ShardPart → ℕ
@@ -103,16 +130,28 @@ row p = p.shard - 1
 abbrev pub StandsAt : List View → ℕ × ℕ → ShardPart → Type 0
 StandsAt views place p = (v : View) × At views place.0 v × At v.shards place.1 p
 
--- Each part stands in just one view: that at the row s of all has the place (seat, position), and the hub's the seat `desk`
+-- Each part stands in just one view: that at the row s of all has the place (seat, position), and
+-- the hub's the seat `desk`
 pub record Seated (views : List View) (hub : HubPart) (all : List ShardPart) : Type 0 where
   pub place : ℕ → ℕ × ℕ
   pub desk : ℕ
   -- it stands nowhere else
-  pub shards : (id i : ℕ) (v : View) (p : ShardPart) → At views id v → At v.shards i p → At all (row p) p × (place (row p) ≡ (id, i))
-  pub hubs : (id : ℕ) (v : View) (h : HubPart) → At views id v → v.hub ≡ Some h → (h ≡ hub) × (id ≡ desk)
+  pub shards : (id i : ℕ) (v : View) (p : ShardPart)
+      → At views id v
+      → At v.shards i p
+      → At all (row p) p × (place (row p) ≡ (id, i))
+  pub hubs : (id : ℕ) (v : View) (h : HubPart)
+      → At views id v
+      → v.hub ≡ Some h
+      → (h ≡ hub) × (id ≡ desk)
   -- it stands there
   pub each : (s : ℕ) (p : ShardPart) → At all s p → StandsAt views (place s) p
   pub one : (v : View) × At views desk v × (v.hub ≡ Some hub)
 
 abbrev pub Kept : {S : Type 0} → ℕ → ℕ → ℕ → ℕ → State S View → Type 0
-Kept limit window names count s = (hub : HubPart) × (all : List ShardPart) × Law limit window names hub all × Words window names count s.words hub all × Seated s.views hub all
+Kept limit window names count s =
+    (hub : HubPart)
+    × (all : List ShardPart)
+    × Law limit window names hub all
+    × Words window names count s.words hub all
+    × Seated s.views hub all

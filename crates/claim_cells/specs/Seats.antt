@@ -49,9 +49,15 @@ shard_view p count = record { hub = None; shards = p ∷ []; at = 0; count = cou
 abbrev pub hub_view : HubPart → ℕ → ℕ → View
 hub_view h at count = record { hub = Some h; shards = []; at = at; count = count }
 
--- the view of the seat that has the hub's part and those of n shards from this one on, as they are at the start
+-- the view of the seat that has the hub's part and those of n shards from this one on, as they are
+-- at the start
 abbrev pub left_from : ℕ → ℕ → ℕ → View
-left_from shard n count = record { hub = Some fresh_hub; shards = newcomers shard n; at = 0; count = count }
+left_from shard n count = record {
+  hub = Some fresh_hub;
+  shards = newcomers shard n;
+  at = 0;
+  count = count;
+}
 
 -- the seat has a shard's part and no other
 abbrev pub IsShard : {S : Type 0} → Me S View → Type 0

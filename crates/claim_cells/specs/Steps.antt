@@ -15,17 +15,45 @@ issued_one h = record { issued = h.issued + 1; loads = h.loads }
 
 -- the shard has loaded the last turn issued
 abbrev pub part_after_load : ShardPart → ℕ → ShardPart
-part_after_load p n = record { shard = p.shard; loads = p.loads ++ n ∷ []; finished = p.finished; next = p.next; won = p.won; lost = p.lost }
+part_after_load p n = record {
+  shard = p.shard;
+  loads = p.loads ++ n ∷ [];
+  finished = p.finished;
+  next = p.next;
+  won = p.won;
+  lost = p.lost;
+}
 
 -- the shard has won the index in its turn, or lost it
 abbrev pub won_by : ShardPart → ℕ → ShardPart
-won_by p x = record { shard = p.shard; loads = p.loads; finished = p.finished; next = x + 1; won = p.won ++ (p.finished + 1, x) ∷ []; lost = p.lost }
+won_by p x = record {
+  shard = p.shard;
+  loads = p.loads;
+  finished = p.finished;
+  next = x + 1;
+  won = p.won ++ (p.finished + 1, x) ∷ [];
+  lost = p.lost;
+}
 
 abbrev pub lost_by : ShardPart → ℕ → ShardPart
-lost_by p x = record { shard = p.shard; loads = p.loads; finished = p.finished; next = x + 1; won = p.won; lost = p.lost ++ (p.finished + 1, x) ∷ [] }
+lost_by p x = record {
+  shard = p.shard;
+  loads = p.loads;
+  finished = p.finished;
+  next = x + 1;
+  won = p.won;
+  lost = p.lost ++ (p.finished + 1, x) ∷ [];
+}
 
 abbrev pub finished_one : ShardPart → ShardPart
-finished_one p = record { shard = p.shard; loads = p.loads; finished = p.finished + 1; next = 0; won = p.won; lost = p.lost }
+finished_one p = record {
+  shard = p.shard;
+  loads = p.loads;
+  finished = p.finished + 1;
+  next = 0;
+  won = p.won;
+  lost = p.lost;
+}
 
 -- it has finished so many turns, one after the other
 abbrev pub finished_more : ℕ → ShardPart → ShardPart
@@ -37,11 +65,17 @@ with_hub v h at = record { hub = Some h; shards = v.shards; at = at; count = v.c
 
 -- the part that acts becomes p
 abbrev pub with_part : View → ShardPart → View
-with_part v p = record { hub = v.hub; shards = slice_set v.shards v.at p; at = v.at; count = v.count }
+with_part v p = record {
+  hub = v.hub;
+  shards = slice_set v.shards v.at p;
+  at = v.at;
+  count = v.count;
+}
 
 -- the seat has each shard's part, in the order of the shards
 abbrev pub HasAll : View → Type 0
-HasAll v = (length v.shards ≡ v.count) × ((s : ℕ) (p : ShardPart) → At v.shards s p → p.shard ≡ s + 1)
+HasAll v =
+    (length v.shards ≡ v.count) × ((s : ℕ) (p : ShardPart) → At v.shards s p → p.shard ≡ s + 1)
 
 -- one of the seat's parts has won the pair
 abbrev pub Won : View → ℕ × ℕ → Type 0
@@ -66,37 +100,52 @@ module _ {S : Type 0} where
   abbrev pub HasPart : Me S View → Type 0
   HasPart m = At m.0.shards m.0.at (part_of m)
 
-  -- The hub found n as the shard's last finished turn: no lower than before, and what the shard's own part says where the seat has that. The shard acts from then on.
+  -- The hub found n as the shard's last finished turn: no lower than before, and what the shard's
+  -- own part says where the seat has that. The shard acts from then on.
   abbrev pub IsLookedAt : ℕ → ℕ → HubPart → Me S View → ℕ → Me S View → Type 0
-  IsLookedAt limit shard h m n k = (k ≡ (with_hub m.0 (hub_after_load h shard n) (shard - 1), m.1)) × (n ≤ limit) × ((f : ℕ) → Has h.loads (shard, f) → f ≤ n)
+  IsLookedAt limit shard h m n k =
+      (k ≡ (with_hub m.0 (hub_after_load h shard n) (shard - 1), m.1))
+      × (n ≤ limit)
+      × ((f : ℕ) → Has h.loads (shard, f) → f ≤ n)
       × ((i : ℕ) (p : ShardPart) → At m.0.shards i p → p.shard ≡ shard → n ≡ p.finished)
 
   -- One more turn is issued, in which none of the seat's parts has won yet.
   abbrev pub IsIssuedAt : HubPart → Me S View → Me S View → Type 0
-  IsIssuedAt h m k = (k ≡ (with_hub m.0 (issued_one h) m.0.at, m.1)) × ((i t x : ℕ) (p : ShardPart) → At m.0.shards i p → Has p.won (t, x) → t ≤ h.issued)
+  IsIssuedAt h m k =
+      (k ≡ (with_hub m.0 (issued_one h) m.0.at, m.1))
+      × ((i t x : ℕ) (p : ShardPart) → At m.0.shards i p → Has p.won (t, x) → t ≤ h.issued)
 
-  -- The shard found n as the last turn issued: no lower than before, and what the hub's part says where the seat has that.
+  -- The shard found n as the last turn issued: no lower than before, and what the hub's part says
+  -- where the seat has that.
   abbrev pub IsSeenAt : ℕ → ShardPart → Me S View → ℕ → Me S View → Type 0
-  IsSeenAt limit p m n k = (k ≡ (with_part m.0 (part_after_load p n), m.1)) × (n ≤ limit) × ((f : ℕ) → Has p.loads f → f ≤ n) × ((h : HubPart) → m.0.hub ≡ Some h → n ≡ h.issued)
+  IsSeenAt limit p m n k =
+      (k ≡ (with_part m.0 (part_after_load p n), m.1))
+      × (n ≤ limit)
+      × ((f : ℕ) → Has p.loads f → f ≤ n)
+      × ((h : HubPart) → m.0.hub ≡ Some h → n ≡ h.issued)
 
-  -- The pair is won, which none of the seat's parts had won; or lost, which one of them had won if the seat has all.
+  -- The pair is won, which none of the seat's parts had won; or lost, which one of them had won if
+  -- the seat has all.
   abbrev pub IsWonAt : ShardPart → ℕ → Me S View → Me S View → Type 0
   IsWonAt p x m k = (k ≡ (with_part m.0 (won_by p x), m.1)) × ¬ Won m.0 (p.finished + 1, x)
 
   abbrev pub IsLostAt : ShardPart → ℕ → Me S View → Me S View → Type 0
-  IsLostAt p x m k = (k ≡ (with_part m.0 (lost_by p x), m.1)) × (HasAll m.0 → Won m.0 (p.finished + 1, x))
+  IsLostAt p x m k =
+      (k ≡ (with_part m.0 (lost_by p x), m.1)) × (HasAll m.0 → Won m.0 (p.finished + 1, x))
 
   abbrev pub IsClaimedAt : ShardPart → ℕ → Me S View → Bool → Me S View → Type 0
   IsClaimedAt p x m won k = (won ≡ true → IsWonAt p x m k) × (won ≡ false → IsLostAt p x m k)
 
   -- the same of a word that held n: it was won where the word was below the turn
   abbrev pub IsFoundAt : ShardPart → ℕ → Me S View → ℕ → Me S View → Type 0
-  IsFoundAt p x m n k = (n < p.finished + 1 → IsWonAt p x m k) × (p.finished + 1 ≤ n → IsLostAt p x m k)
+  IsFoundAt p x m n k =
+      (n < p.finished + 1 → IsWonAt p x m k) × (p.finished + 1 ≤ n → IsLostAt p x m k)
 
   abbrev pub IsFinishedAt : ShardPart → Me S View → Me S View → Type 0
   IsFinishedAt p m k = k ≡ (with_part m.0 (finished_one p), m.1)
 
-  -- What each kind of step on the words tells, whatever its seat. The word of a shard has the shard's number.
+  -- What each kind of step on the words tells, whatever its seat. The word of a shard has the
+  -- shard's number.
   abbrev pub Looks : ℕ → Step S → Me S View → ℕ → Me S View → Type 0
   Looks limit st m n k = (h : HubPart) → m.0.hub ≡ Some h → IsLookedAt limit st.word h m n k
 
@@ -107,7 +156,11 @@ module _ {S : Type 0} where
   Sees limit st m n k = (p : ShardPart) → At m.0.shards m.0.at p → IsSeenAt limit p m n k
 
   abbrev pub Claims : ℕ → ℕ → Step S → Me S View → ℕ → Me S View → Type 0
-  Claims window names st m n k = (x : ℕ) (p : ShardPart) → At m.0.shards m.0.at p → st.word ≡ m.0.count + 1 + cell window names (p.finished + 1) x → IsFoundAt p x m n k
+  Claims window names st m n k =
+      (x : ℕ) (p : ShardPart)
+      → At m.0.shards m.0.at p
+      → st.word ≡ m.0.count + 1 + cell window names (p.finished + 1) x
+      → IsFoundAt p x m n k
 
   abbrev pub Finishes : Step S → Me S View → ℕ → Me S View → Type 0
   Finishes st m n k = (p : ShardPart) → At m.0.shards m.0.at p → IsFinishedAt p m k

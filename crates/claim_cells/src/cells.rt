@@ -44,7 +44,9 @@ impl Model for Cells {
 
     ghost view = { λ cells. record { table = cells.table.shared.table_id; shards = cells.shards } };
 
-    ghost invariant = { λ cells. IsCells WINDOW MAX_QUEUE_NAMES MAX_SHARDS cells.table.shared.table_id cells.table.shared.key cells.shards };
+    ghost invariant = { λ cells.
+        IsCells WINDOW MAX_QUEUE_NAMES MAX_SHARDS cells.table.shared.table_id cells.table.shared.key
+        cells.shards };
 }
 
 impl Cells {
@@ -52,7 +54,10 @@ impl Cells {
     pub(crate) fn deal(alloc: Global, shards: u64) -> Result<(Cells, Place), AllocError>
         requires first { 1 ≤ shards }
         requires last { shards ≤ MAX_SHARDS }
-        ensures { IfOk result (λ t. (t.0.shards ≡ shards) × (t.1.table_id ≡ t.0.table) × (t.1.me ≡ (whole_view shards, []))) }
+        ensures { IfOk result (λ t.
+            (t.0.shards ≡ shards)
+            × (t.1.table_id ≡ t.0.table)
+            × (t.1.me ≡ (whole_view shards, []))) }
     {
         let words = vec![in alloc; 0; shards as usize + 1 + CLAIM_WORDS]?;
         let (table, place) = Table::of_words(alloc, words.as_slice(), &shards)?;
@@ -71,7 +76,11 @@ impl Cells {
     pub fn new(alloc: Global, shards: u64) -> Result<(Cells, HubSeat, Vec<ShardSeat>), AllocError>
         requires first { 1 ≤ shards }
         requires last { shards ≤ MAX_SHARDS }
-        ensures { IfOk result (λ t. (t.0.shards ≡ shards) × (t.1.race ≡ t.0) × (t.1.part ≡ fresh_hub) × AllNew t.0 shards t.2.items) }
+        ensures { IfOk result (λ t.
+            (t.0.shards ≡ shards)
+            × (t.1.race ≡ t.0)
+            × (t.1.part ≡ fresh_hub)
+            × AllNew t.0 shards t.2.items) }
     {
         let mut seats = Vec::with_capacity(alloc, shards as usize)?;
         let (cells, mut place) = Cells::deal(alloc, shards)?;

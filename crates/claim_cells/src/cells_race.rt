@@ -28,7 +28,10 @@ impl Model for CellsRace {
 
     ghost view = { λ race. race_of_seat race.place.me };
 
-    ghost invariant = { λ race. IsOneSeat race.cells (record { table = race.place.table_id; shards = race.place.me.0.count }) race.place.me race.issued race.finished };
+    ghost invariant = { λ race.
+        IsOneSeat race.cells
+        (record { table = race.place.table_id; shards = race.place.me.0.count }) race.place.me
+        race.issued race.finished };
 }
 
 impl Race for CellsRace {

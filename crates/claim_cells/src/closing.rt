@@ -30,7 +30,8 @@ impl Closed {
     /// the index is below [`MAX_QUEUE_NAMES`].
     pub fn cell(&self, turn: Turn, index: u64) -> Turn
         requires { index < MAX_QUEUE_NAMES }
-        ensures { result ≡ slice_index self.now.cells.items (cell WINDOW MAX_QUEUE_NAMES turn index) }
+        ensures { result
+            ≡ slice_index self.now.cells.items (cell WINDOW MAX_QUEUE_NAMES turn index) }
     {
         self.cells[(turn.get() % WINDOW * MAX_QUEUE_NAMES + index) as usize]
     }
@@ -51,7 +52,9 @@ impl Model for FinalTable {
 
     ghost view = { λ words. slots_items words.table.words };
 
-    ghost invariant = { λ words. IsLast MAX_COUNTER (IsFull words.table.words) (slots_items words.table.words) (slots_len words.table.words) (slots_len words.table.slots) };
+    ghost invariant = { λ words.
+        IsLast MAX_COUNTER (IsFull words.table.words) (slots_items words.table.words)
+        (slots_len words.table.words) (slots_len words.table.slots) };
 }
 
 impl FinalTable {
@@ -67,7 +70,10 @@ impl FinalTable {
     fn finished(&self, shards: u64) -> Finished
         requires most { shards ≤ MAX_SHARDS }
         requires there { shards < length self.now }
-        ensures { (found : List ℕ) × (length found ≡ shards) × ((s : ℕ) → s < shards → slice_index found s ≡ slice_index self.now (s + 1)) × (result ≡ finished_list found) }
+        ensures { (found : List ℕ)
+            × (length found ≡ shards)
+            × ((s : ℕ) → s < shards → slice_index found s ≡ slice_index self.now (s + 1))
+            × (result ≡ finished_list found) }
     {
         let mut finished = Finished::new();
         for before in 0..shards {
@@ -81,7 +87,9 @@ impl FinalTable {
         requires place { first ≤ MAX_SHARDS + 1 }
         requires width { length self.now ≡ first + length cells.old.items }
         ensures width { length cells.new.items ≡ length cells.old.items }
-        ensures words { (c : ℕ) → c < length cells.old.items → slice_index cells.new.items c ≡ slice_index self.now (first + c) }
+        ensures words { (c : ℕ)
+            → c < length cells.old.items
+            → slice_index cells.new.items c ≡ slice_index self.now (first + c) }
     {
         for place in 0..cells.len() {
             cells[place] = self.turn(first + place);
@@ -138,7 +146,8 @@ impl Cells {
         requires hub { hub.race ≡ self }
         requires shards { AllOf self seats.items }
         requires each { HasEach self.shards seats.items }
-        ensures { IfOk result (λ closed. IsClosed self hub.part seats.items closed.issued closed.finished closed.cells.items) }
+        ensures { IfOk result (λ closed.
+            IsClosed self hub.part seats.items closed.issued closed.finished closed.cells.items) }
     {
         let mut cells = vec![in self.alloc; Turn::zero(); CLAIM_WORDS]?;
         let shards = self.shards;

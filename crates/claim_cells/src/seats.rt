@@ -29,7 +29,10 @@ impl Model for HubSeat {
 
     ghost Value = { HubShown };
 
-    ghost view = { λ seat. record { race = record { table = seat.place.table_id; shards = seat.place.me.0.count }; part = hub_of seat.place.me } };
+    ghost view = { λ seat. record {
+      race = record { table = seat.place.table_id; shards = seat.place.me.0.count };
+      part = hub_of seat.place.me;
+    } };
 
     ghost invariant = { λ seat. IsHubSeat seat.place.me seat.issued };
 }
@@ -62,9 +65,13 @@ impl Model for ShardSeat {
 
     ghost Value = { ShardShown };
 
-    ghost view = { λ seat. record { race = record { table = seat.place.table_id; shards = seat.place.me.0.count }; part = part_of seat.place.me } };
+    ghost view = { λ seat. record {
+      race = record { table = seat.place.table_id; shards = seat.place.me.0.count };
+      part = part_of seat.place.me;
+    } };
 
-    ghost invariant = { λ seat. IsShardSeat seat.place.me seat.shard seat.finished seat.next seat.seen };
+    ghost invariant = { λ seat.
+        IsShardSeat seat.place.me seat.shard seat.finished seat.next seat.seen };
 }
 
 impl ShardSeat {

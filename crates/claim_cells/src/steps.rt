@@ -38,7 +38,8 @@ impl Cells {
         requires first { 1 ≤ shard }
         requires last { shard ≤ self.now.shards }
         ensures table { place.new.table_id ≡ place.old.table_id }
-        ensures told { IsLookedAt MAX_COUNTER shard (hub_of place.old.me) place.old.me result place.new.me }
+        ensures told { IsLookedAt MAX_COUNTER shard (hub_of place.old.me) place.old.me result
+            place.new.me }
     {
         let found = self.table.shared.load::<Look>(place, shard as usize);
         Turn::new(found).unwrap()
@@ -49,7 +50,9 @@ impl Cells {
         requires table { place.old.table_id ≡ self.now.table }
         requires hub { HasHub place.old.me }
         requires next { turn ≡ (hub_of place.old.me).issued + 1 }
-        requires near { (s : ℕ) → s < self.now.shards → (f : ℕ) × Has (hub_of place.old.me).loads (s + 1, f) × (turn ≤ f + WINDOW) }
+        requires near { (s : ℕ)
+            → s < self.now.shards
+            → (f : ℕ) × Has (hub_of place.old.me).loads (s + 1, f) × (turn ≤ f + WINDOW) }
         ensures table { place.new.table_id ≡ place.old.table_id }
         ensures told { IsIssuedAt (hub_of place.old.me) place.old.me place.new.me }
     {
@@ -61,7 +64,8 @@ impl Cells {
         requires table { place.old.table_id ≡ self.now.table }
         requires part { HasPart place.old.me }
         ensures table { place.new.table_id ≡ place.old.table_id }
-        ensures told { IsSeenAt MAX_COUNTER (part_of place.old.me) place.old.me result place.new.me }
+        ensures told { IsSeenAt MAX_COUNTER (part_of place.old.me) place.old.me result
+            place.new.me }
     {
         let found = self.table.shared.load::<See>(place, 0);
         Turn::new(found).unwrap()
@@ -110,7 +114,9 @@ impl Cells {
         requires table { place.old.table_id ≡ self.now.table }
         requires hub { HasHub place.old.me }
         ensures table { place.new.table_id ≡ place.old.table_id }
-        ensures told { (found : List ℕ) × IsRoundAt self.now.shards place.old.me found place.new.me × (result ≡ finished_list found) }
+        ensures told { (found : List ℕ)
+            × IsRoundAt self.now.shards place.old.me found place.new.me
+            × (result ≡ finished_list found) }
     {
         let mut finished = Finished::new();
         for before in 0..self.shards {

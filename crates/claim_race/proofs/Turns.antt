@@ -7,13 +7,18 @@ use Rattle.std.proofs.lemmas.Nat.{mod-mul-add, div-mul-add, mod_below}
 -- two numbers less than n apart, the first not above the second, with one remainder, are one number
 rising_turn : (a b n : ℕ) → a ≤ b → b < a + n → a % n ≡ b % n → a ≡ b
 rising_turn a b n le lt same =
-    let x : ℕ = a / n in let y : ℕ = b / n in let xn : ℕ = x * n in let yn : ℕ = y * n in let r : ℕ = b % n in
+    let x : ℕ = a / n in
+    let y : ℕ = b / n in
+    let xn : ℕ = x * n in
+    let yn : ℕ = y * n in
+    let r : ℕ = b % n in
     let a_is : xn + r ≡ a = ap (λ (k : ℕ). xn + k) (sym same) ∙ div-add-mod' a n in
     let b_is : yn + r ≡ b = div-add-mod' b n in
-    ⊎_elim
-    (λ (under : x < y). let more : (x + 1) * n ≤ yn = mul-le-mul_right n (omega arith) in let step : (x + 1) * n ≡ xn + n = omega arith in absurd (omega arith))
-    (λ (above : y ≤ x). let less : yn ≤ xn = mul-le-mul_right n above in omega arith)
-    (cases_lt x y)
+    ⊎_elim (λ (under : x < y).
+    let more : (x + 1) * n ≤ yn = mul-le-mul_right n (omega arith) in
+    let step : (x + 1) * n ≡ xn + n = omega arith in
+    absurd (omega arith))
+    (λ (above : y ≤ x). let less : yn ≤ xn = mul-le-mul_right n above in omega arith) (cases_lt x y)
 
 -- the same in any order
 pub one_turn : (a b n : ℕ) → a < b + n → b < a + n → a % n ≡ b % n → a ≡ b

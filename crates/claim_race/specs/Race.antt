@@ -1,4 +1,5 @@
--- Claims won: of each pair of a turn and an index at most one shard wins, over the window of the newest turns issued (profile).
+-- Claims won: of each pair of a turn and an index at most one shard wins, over the window of the
+-- newest turns issued (profile).
 use Rattle.std.specs.Prelude.{◌≡◌, ℕ, ◌+◌, ◌-◌, ◌<◌, ◌≤◌, Bool, ◌&&◌, nat_eq, nat_lt, is_none, List, [], length, find, position, replicate, slice_index, slice_set, Option, Some, None, if◌then◌else◌}
 use Rattle.std.specs.Option.{option_map}
 use Rattle.subj.specs.declared.limits.TheConstants.{WINDOW, MAX_QUEUE_NAMES}
@@ -10,7 +11,9 @@ pub record Win : Type 0 where
   pub index : ℕ
   pub shard : ℕ
 
--- What a race shows: the last turn issued; by shard, that of shard 1 first, the last turn that it finished and the least index that it may claim next; and the claims won, in any order. It may have forgotten those of turns that left the window.
+-- What a race shows: the last turn issued; by shard, that of shard 1 first, the last turn that it
+-- finished and the least index that it may claim next; and the claims won, in any order. It may
+-- have forgotten those of turns that left the window.
 pub record RaceState : Type 0 where
   pub issued : ℕ
   pub finished : List ℕ
@@ -35,7 +38,9 @@ winner race turn index = option_map (λ win. win.shard) (find (is_of_pair turn i
 
 -- what was won is the same, as far as the window of the new turns goes
 pub record KeepsWinners (old new : RaceState) : Type 0 where
-  pub winners : (turn index : ℕ) → new.issued < turn + WINDOW → winner new turn index ≡ winner old turn index
+  pub winners : (turn index : ℕ)
+      → new.issued < turn + WINDOW
+      → winner new turn index ≡ winner old turn index
 
 -- a race at its start: no turn is issued, and nothing is won
 pub record IsNew (shards : ℕ) (race : RaceState) : Type 0 where
@@ -78,16 +83,21 @@ pub record IsIssued (old : RaceState) (turn : ℕ) (new : RaceState) : Type 0 wh
 
 -- who has won a pair after a claim
 abbrev pub winner_after : RaceState → ℕ → ℕ → ℕ → ℕ → ℕ → Option ℕ
-winner_after race shard turn index t i = if nat_eq t turn && nat_eq i index then Some shard else winner race t i
+winner_after race shard turn index t i =
+    if nat_eq t turn && nat_eq i index then Some shard else winner race t i
 
--- a claim is won just where nobody had won the pair; then the shard has won it, and no other pair changes
-pub record IsClaimed (old : RaceState) (shard turn index : ℕ) (won : Bool) (new : RaceState) : Type 0 where
+-- a claim is won just where nobody had won the pair; then the shard has won it, and no other pair
+-- changes
+pub record IsClaimed (old : RaceState) (shard turn index : ℕ) (won : Bool) (new : RaceState) :
+    Type 0 where
   pub decided : won ≡ is_none (winner old turn index)
   pub issued : new.issued ≡ old.issued
   pub finished : new.finished ≡ old.finished
   pub next : new.next ≡ slice_set old.next (shard - 1) (index + 1)
   pub pair : winner new turn index ≡ (if won then Some shard else winner old turn index)
-  pub winners : (t i : ℕ) → new.issued < t + WINDOW → winner new t i ≡ (if won then winner_after old shard turn index t i else winner old t i)
+  pub winners : (t i : ℕ)
+      → new.issued < t + WINDOW
+      → winner new t i ≡ (if won then winner_after old shard turn index t i else winner old t i)
 
 -- the shard has done with the turn
 pub record IsFinished (old : RaceState) (shard turn : ℕ) (new : RaceState) : Type 0 where

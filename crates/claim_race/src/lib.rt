@@ -50,7 +50,9 @@ pub trait Race: Sized + Drop {
     /// Required: the last turn issued is below [`MAX_COUNTER`](subj::MAX_COUNTER).
     fn issue(&mut self) -> Result<Turn, Busy>
         requires { (contents self.old).issued < MAX_COUNTER }
-        ensures { let old = contents self.old in IsDecided (busy_of old.issued old.finished) (λ turn. IsIssued old turn (contents self.new)) (contents self.new ≡ old) result };
+        ensures { let old = contents self.old in
+            IsDecided (busy_of old.issued old.finished)
+            (λ turn. IsIssued old turn (contents self.new)) (contents self.new ≡ old) result };
 
     /// The last turn that the shard finished, 0 before the first.
     fn finished(&self, shard: u64) -> Turn

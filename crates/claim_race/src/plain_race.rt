@@ -48,7 +48,8 @@ impl Model for PlainRace {
 
     ghost view = { λ race. race_of_table race.issued race.progress.items race.table.items };
 
-    ghost invariant = { λ race. IsTable race.issued (finished_in race.progress.items) race.table.items };
+    ghost invariant = { λ race.
+        IsTable race.issued (finished_in race.progress.items) race.table.items };
 }
 
 /// The place of a pair in the table.

@@ -3,7 +3,8 @@ use Rattle.std.specs.Prelude.{ℕ, Bool, true}
 use Rattle.cluster_law.specs.Names.{Bytes}
 use Rattle.cluster_law.specs.Interest.{Change, View}
 
--- The limits, and what the machine does not look into: which pattern matches which subject ("Subject-Based Messaging"), and how a change acts on a view. All laws hold for any of these.
+-- The limits, and what the machine does not look into: which pattern matches which subject
+-- ("Subject-Based Messaging"), and how a change acts on a view. All laws hold for any of these.
 pub record Config : Type 0 where
   pub nodes : ℕ
   -- of a node
@@ -16,7 +17,8 @@ pub record Config : Type 0 where
   pub matches : Bytes → Bytes → Bool
   pub follow : Change → View → View
 
--- The rules that are shown to count: for each there is a run without it that breaks a law. Elsewhere all are on.
+-- The rules that are shown to count: for each there is a run without it that breaks a law.
+-- Elsewhere all are on.
 pub record Rules : Type 0 where
   -- a frame is taken by the node that it names alone
   pub addressee : Bool
@@ -46,4 +48,18 @@ pub record Rules : Type 0 where
   pub next : Bool
 
 abbrev pub every_rule : Rules
-every_rule = record { addressee = true; incarnation = true; mark = true; origin = true; apart = true; one_frame = true; window = true; unwon = true; member = true; once = true; fresh = true; sent = true; next = true }
+every_rule = record {
+  addressee = true;
+  incarnation = true;
+  mark = true;
+  origin = true;
+  apart = true;
+  one_frame = true;
+  window = true;
+  unwon = true;
+  member = true;
+  once = true;
+  fresh = true;
+  sent = true;
+  next = true;
+}

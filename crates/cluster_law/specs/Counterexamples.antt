@@ -17,7 +17,8 @@ BreaksHeadline rules = Breaks rules (λ c w. Headline c w.past)
 abbrev pub AddresseeIsNeeded : Type 0
 AddresseeIsNeeded = BreaksHeadline (record every_rule { addressee = false })
 
--- A frame is taken by the next incarnation of its node too, which places it for a member of its own.
+-- A frame is taken by the next incarnation of its node too, which places it for a member of its
+-- own.
 abbrev pub IncarnationIsNeeded : Type 0
 IncarnationIsNeeded = BreaksHeadline (record every_rule { incarnation = false })
 
@@ -25,7 +26,8 @@ IncarnationIsNeeded = BreaksHeadline (record every_rule { incarnation = false })
 abbrev pub MarkIsNeeded : Type 0
 MarkIsNeeded = BreaksHeadline (record every_rule { mark = false })
 
--- A late frame of an old incarnation is taken again, once a greater one was seen and the marks began anew.
+-- A late frame of an old incarnation is taken again, once a greater one was seen and the marks
+-- began anew.
 abbrev pub OriginIsNeeded : Type 0
 OriginIsNeeded = BreaksHeadline (record every_rule { origin = false })
 
@@ -39,13 +41,15 @@ SentIsNeeded = BreaksHeadline (record every_rule { sent = false })
 abbrev pub ApartIsNeeded : Type 0
 ApartIsNeeded = BreaksHeadline (record every_rule { apart = false })
 
--- Two frames go to one peer. The mark keeps the headline here: it is the law of one frame for a peer that breaks.
+-- Two frames go to one peer. The mark keeps the headline here: it is the law of one frame for a
+-- peer that breaks.
 abbrev pub OneFrameIsNeeded : Type 0
 OneFrameIsNeeded = Breaks (record every_rule { one_frame = false }) (λ c w. Routing c w.past)
 
 -- The rules of turns and claims
 
--- A turn is issued while a shard is behind: what was won in the old turn is forgotten, and that shard wins it again.
+-- A turn is issued while a shard is behind: what was won in the old turn is forgotten, and that
+-- shard wins it again.
 abbrev pub WindowIsNeeded : Type 0
 WindowIsNeeded = BreaksHeadline (record every_rule { window = false })
 
@@ -61,7 +65,8 @@ MemberIsNeeded = BreaksHeadline (record every_rule { member = false })
 abbrev pub OnceIsNeeded : Type 0
 OnceIsNeeded = BreaksHeadline (record every_rule { once = false })
 
--- A node starts again with the same incarnation: its numbers come again, and with them a publication's name and a subscription's.
+-- A node starts again with the same incarnation: its numbers come again, and with them a
+-- publication's name and a subscription's.
 abbrev pub FreshIsNeeded : Type 0
 FreshIsNeeded = BreaksHeadline (record every_rule { fresh = false })
 

@@ -11,7 +11,8 @@ use Rattle.cluster_law.specs.Shard.{Shard}
 use Rattle.cluster_law.specs.Node.{Node}
 use Rattle.cluster_law.specs.Cluster.{World}
 
--- The headline ("Queue Groups": one member gets each message; that it gets it once, over all nodes and restarts: profile)
+-- The headline ("Queue Groups": one member gets each message; that it gets it once, over all nodes
+-- and restarts: profile)
 
 -- Not one publication twice for a plain subscription.
 abbrev pub PlainOnce : Placement → Placement → Type 0
@@ -23,7 +24,8 @@ OneMember p q = (name : Bytes) → p.id ≡ q.id → p.mode ≡ Some name → q.
 
 -- Of one subscription, the publications of one origin incarnation come in strictly rising number.
 abbrev pub InOrder : Placement → Placement → Type 0
-InOrder p q = p.life ≡ q.life → p.id.origin ≡ q.id.origin → p.id.inc ≡ q.id.inc → p.id.number < q.id.number
+InOrder p q =
+    p.life ≡ q.life → p.id.origin ≡ q.id.origin → p.id.inc ≡ q.id.inc → p.id.number < q.id.number
 
 -- It is the content of a publication of an earlier step.
 pub record IsPublished (publications : List Publication) (p : Placement) : Type 0 where
@@ -33,8 +35,10 @@ pub record IsPublished (publications : List Publication) (p : Placement) : Type 
   pub content : source.content ≡ p.content
   pub earlier : source.step < p.step
 
--- Its subscription, of that connection, sid and queue name, was opened before and not closed before, and its pattern matches.
-pub record IsOwed (c : Config) (lives : List Life) (closings : List Closing) (p : Placement) : Type 0 where
+-- Its subscription, of that connection, sid and queue name, was opened before and not closed
+-- before, and its pattern matches.
+pub record IsOwed (c : Config) (lives : List Life) (closings : List Closing) (p : Placement) :
+    Type 0 where
   pub life : Life
   pub life_in : In life lives
   pub id : life.id ≡ p.life
@@ -54,7 +58,8 @@ pub record Headline (c : Config) (past : History) : Type 0 where
 
 -- What it rests on
 
--- Publications and subscriptions have names of their own, and a subscription that closed was opened before and closes once.
+-- Publications and subscriptions have names of their own, and a subscription that closed was opened
+-- before and closes once.
 abbrev pub IsClosing : List Life → Closing → Type 0
 IsClosing lives x = (life : Life) × In life lives × (life.id ≡ x.life) × (life.opened < x.step)
 
@@ -95,13 +100,26 @@ pub record IsLine (shard : Shard) : Type 0 where
 
 -- Of each node that is up, each shard is so.
 abbrev pub EachShard : (Shard → Type 0) → World → Type 0
-EachShard P w = (n : ℕ) (a : Node) → slice_get w.nodes n ≡ Some a → a.up ≡ true → (s : ℕ) (shard : Shard) → slice_get a.shards s ≡ Some shard → P shard
+EachShard P w =
+    (n : ℕ) (a : Node)
+    → slice_get w.nodes n ≡ Some a
+    → a.up ≡ true
+    → (s : ℕ) (shard : Shard)
+    → slice_get a.shards s ≡ Some shard
+    → P shard
 
--- The view that is kept of an origin is that of the incarnation seen (one that was started, or 0 and nothing), after as many changes as its mark says, which that incarnation made.
+-- The view that is kept of an origin is that of the incarnation seen (one that was started, or 0
+-- and nothing), after as many changes as its mark says, which that incarnation made.
 pub record IsView (c : Config) (past : History) (origin : ℕ) (p : Peer) : Type 0 where
   pub seen : (p.seen ≡ 0) ⊎ In (origin, p.seen) past.started
   pub reached : p.heard ≤ length (changes_of past.changes origin p.seen)
   pub view : p.view ≡ view_after c.follow (changes_of past.changes origin p.seen) p.heard []
 
 abbrev pub EachView : Config → World → Type 0
-EachView c w = (n : ℕ) (a : Node) → slice_get w.nodes n ≡ Some a → a.up ≡ true → (origin : ℕ) (p : Peer) → slice_get a.hub.peers origin ≡ Some p → IsView c w.past origin p
+EachView c w =
+    (n : ℕ) (a : Node)
+    → slice_get w.nodes n ≡ Some a
+    → a.up ≡ true
+    → (origin : ℕ) (p : Peer)
+    → slice_get a.hub.peers origin ≡ Some p
+    → IsView c w.past origin p

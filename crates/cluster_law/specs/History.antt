@@ -1,10 +1,12 @@
--- What was done in the cluster (profile): lists that only grow. No rule reads them, but for the starts and the frames sent.
+-- What was done in the cluster (profile): lists that only grow. No rule reads them, but for the
+-- starts and the frames sent.
 use Rattle.std.specs.Prelude.{ℕ, List, [], ◌++◌, Option}
 use Rattle.cluster_law.specs.Names.{Bytes, PubId, LifeId}
 use Rattle.cluster_law.specs.Interest.{Noted}
 use Rattle.cluster_law.specs.Messages.{Content, Publication, Frame}
 
--- What one incarnation of a node is to do for a publication: its turn, and the queue names to serve there, by index.
+-- What one incarnation of a node is to do for a publication: its turn, and the queue names to serve
+-- there, by index.
 pub record Job : Type 0 where
   pub node : ℕ
   pub inc : ℕ
@@ -13,7 +15,8 @@ pub record Job : Type 0 where
   pub content : Content
   pub names : List Bytes
 
--- The life of one subscription: its connection, sid, pattern and queue name, and the step that opened it.
+-- The life of one subscription: its connection, sid, pattern and queue name, and the step that
+-- opened it.
 pub record Life : Type 0 where
   pub id : LifeId
   pub connection : ℕ
@@ -27,7 +30,8 @@ pub record Closing : Type 0 where
   pub life : LifeId
   pub step : ℕ
 
--- A message that was put into the outbox of a subscription's connection. The mode is the queue name that it was put for, or none for a plain subscription.
+-- A message that was put into the outbox of a subscription's connection. The mode is the queue name
+-- that it was put for, or none for a plain subscription.
 pub record Placement : Type 0 where
   pub id : PubId
   pub life : LifeId
@@ -60,7 +64,15 @@ pub record Output : Type 0 where
   pub placements : List Placement
 
 abbrev pub nothing : Output
-nothing = record { publications = []; frames = []; changes = []; jobs = []; lives = []; closings = []; placements = [] }
+nothing = record {
+  publications = [];
+  frames = [];
+  changes = [];
+  jobs = [];
+  lives = [];
+  closings = [];
+  placements = [];
+}
 
 abbrev pub history_with : History → Output → History
 history_with past out = record {

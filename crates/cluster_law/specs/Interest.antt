@@ -1,4 +1,5 @@
--- What a node's clients wait for, as the other nodes hear of it ("Cluster Protocol": RS+, RS-; numbers, snapshots and weights: profile).
+-- What a node's clients wait for, as the other nodes hear of it ("Cluster Protocol": RS+, RS-;
+-- numbers, snapshots and weights: profile).
 use Rattle.std.specs.Prelude.{◌&&◌, ℕ, zero, suc, List, [], ◌∷◌, Option, cond, nat_eq}
 use Rattle.cluster_law.specs.Names.{Bytes}
 
@@ -16,7 +17,8 @@ pub record Weighted : Type 0 where
 abbrev pub View : Type 0
 View = List Weighted
 
--- A change of an incarnation's interest. No rule looks into it: how it acts on a view is a parameter of the machine.
+-- A change of an incarnation's interest. No rule looks into it: how it acts on a view is a
+-- parameter of the machine.
 pub data Change : Type 0 where
   Up : (weighted : Weighted) → Change
   Gone : (key : Key) → Change
@@ -32,7 +34,9 @@ pub record Noted : Type 0 where
 -- The changes of one incarnation, in order.
 abbrev pub changes_of : List Noted → ℕ → ℕ → List Change
 changes_of [] node inc = []
-changes_of (x ∷ xs) node inc = cond (nat_eq x.node node && nat_eq x.inc inc) (x.change ∷ changes_of xs node inc) (changes_of xs node inc)
+changes_of (x ∷ xs) node inc =
+    cond (nat_eq x.node node && nat_eq x.inc inc) (x.change ∷ changes_of xs node inc)
+    (changes_of xs node inc)
 
 -- A view after the first of these changes, as many as are asked for.
 abbrev pub view_after : (Change → View → View) → List Change → ℕ → View → View

@@ -12,15 +12,18 @@ pub mod Values
 pub mod Config
 -- what was done in the cluster: lists that only grow
 pub mod History
--- the hub's part of a node: it numbers publications, splits their queue names, and tells which frames of others it takes
+-- the hub's part of a node: it numbers publications, splits their queue names, and tells which
+-- frames of others it takes
 pub mod Hub
 -- issuing turns, and which claims were won
 pub mod Race
--- a shard's part of a node: it holds open subscriptions, and works the jobs of its line one after the other
+-- a shard's part of a node: it holds open subscriptions, and works the jobs of its line one after
+-- the other
 pub mod Shard
 -- a node: the steps of its parts, put together
 pub mod Node
--- the cluster: nodes that start and stop, and frames that were sent and are handed over at any time or never
+-- the cluster: nodes that start and stop, and frames that were sent and are handed over at any time
+-- or never
 pub mod Cluster
 -- what holds of every world that is reached
 pub mod Headline

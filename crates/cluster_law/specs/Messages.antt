@@ -1,9 +1,11 @@
--- What is published, and what nodes send to each other ("Cluster Protocol"; the numbers and incarnations in a frame: profile).
+-- What is published, and what nodes send to each other ("Cluster Protocol"; the numbers and
+-- incarnations in a frame: profile).
 use Rattle.std.specs.Prelude.{ℕ, List, [], ◌∷◌, Option}
 use Rattle.cluster_law.specs.Names.{Bytes, PubId}
 use Rattle.cluster_law.specs.Interest.{Change, View}
 
--- All of a message that its receivers get. Who published it, and whether it is to come back to that connection, only narrows who gets it, and is left out.
+-- All of a message that its receivers get. Who published it, and whether it is to come back to that
+-- connection, only narrows who gets it, and is left out.
 pub record Content : Type 0 where
   pub subject : Bytes
   pub reply : Option Bytes
@@ -16,7 +18,8 @@ pub record Publication : Type 0 where
   pub content : Content
   pub step : ℕ
 
--- A routed message, for one incarnation of one node, with the queue names which that node is to serve.
+-- A routed message, for one incarnation of one node, with the queue names which that node is to
+-- serve.
 pub record Routed : Type 0 where
   pub id : PubId
   pub to : ℕ

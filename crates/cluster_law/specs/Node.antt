@@ -1,4 +1,5 @@
--- A node: the steps of its parts, put together. Node n, with state a, makes step now, and its state is then b.
+-- A node: the steps of its parts, put together. Node n, with state a, makes step now, and its state
+-- is then b.
 use Rattle.std.specs.Prelude.{◌≡◌, ℕ, suc, Bool, List, [], ◌∷◌, ◌++◌, map, set, slice_get, Some}
 use Rattle.cluster_law.specs.Names.{Bytes, PubId}
 use Rattle.cluster_law.specs.Interest.{Change, Noted}
@@ -25,40 +26,69 @@ abbrev pub shard_with_job : Job → Shard → Shard
 shard_with_job job shard = record shard { waiting = shard.waiting ++ job ∷ [] }
 
 abbrev pub next_publication : ℕ → ℕ → Node → Content → Publication
-next_publication n now a content = record { id = next_id n a.inc a.hub; content = content; step = now }
+next_publication n now a content = record {
+  id = next_id n a.inc a.hub;
+  content = content;
+  step = now;
+}
 
 abbrev pub next_job : ℕ → Node → PubId → Content → List Bytes → Job
-next_job n a id content names = record { node = n; inc = a.inc; turn = suc a.race.issued; id = id; content = content; names = names }
+next_job n a id content names = record {
+  node = n;
+  inc = a.inc;
+  turn = suc a.race.issued;
+  id = id;
+  content = content;
+  names = names;
+}
 
--- A publish: the hub splits it, the race gives the job its turn, and each shard's line gets the job.
-pub record Publishes (rules : Rules) (c : Config) (n now : ℕ) (a : Node) (content : Content) (out : Output) (b : Node) : Type 0 where
+-- A publish: the hub splits it, the race gives the job its turn, and each shard's line gets the
+-- job.
+pub record Publishes (rules : Rules) (c : Config) (n now : ℕ) (a : Node) (content : Content)
+    (out : Output) (b : Node) : Type 0 where
   pub names : List Bytes
   pub frames : List Routed
   pub hub : Hub
   pub race : Race
   pub publishes : HubPublishes rules c n a.hub (next_publication n now a content) names frames hub
   pub issues : Issues rules c.window (finished_turns a.shards) a.race race
-  pub out_is : out ≡ record nothing { publications = next_publication n now a content ∷ []; frames = map Message frames; jobs = next_job n a (next_id n a.inc a.hub) content names ∷ [] }
-  pub after : b ≡ record a { hub = hub; race = race; shards = map (shard_with_job (next_job n a (next_id n a.inc a.hub) content names)) a.shards }
+  pub out_is : out ≡ record nothing {
+    publications = next_publication n now a content ∷ [];
+    frames = map Message frames;
+    jobs = next_job n a (next_id n a.inc a.hub) content names ∷ [];
+  }
+  pub after : b ≡ record a {
+    hub = hub;
+    race = race;
+    shards = map (shard_with_job (next_job n a (next_id n a.inc a.hub) content names)) a.shards;
+  }
 
--- A routed message is taken: the same for this node alone, and it is sent to nobody else ("Cluster Protocol": one hop).
-pub record Receives (rules : Rules) (c : Config) (n : ℕ) (a : Node) (m : Routed) (out : Output) (b : Node) : Type 0 where
+-- A routed message is taken: the same for this node alone, and it is sent to nobody else ("Cluster
+-- Protocol": one hop).
+pub record Receives (rules : Rules) (c : Config) (n : ℕ) (a : Node) (m : Routed) (out : Output)
+    (b : Node) : Type 0 where
   pub hub : Hub
   pub race : Race
   pub receives : HubReceives rules n a.inc a.hub m hub
   pub issues : Issues rules c.window (finished_turns a.shards) a.race race
   pub out_is : out ≡ record nothing { jobs = next_job n a m.id m.content m.names ∷ [] }
-  pub after : b ≡ record a { hub = hub; race = race; shards = map (shard_with_job (next_job n a m.id m.content m.names)) a.shards }
+  pub after : b ≡ record a {
+    hub = hub;
+    race = race;
+    shards = map (shard_with_job (next_job n a m.id m.content m.names)) a.shards;
+  }
 
 -- News of interest are taken.
-pub record Hears (rules : Rules) (c : Config) (n : ℕ) (a : Node) (t : News) (out : Output) (b : Node) : Type 0 where
+pub record Hears (rules : Rules) (c : Config) (n : ℕ) (a : Node) (t : News) (out : Output)
+    (b : Node) : Type 0 where
   pub hub : Hub
   pub hears : HubHears rules c n a.inc a.hub t hub
   pub out_is : out ≡ nothing
   pub after : b ≡ record a { hub = hub }
 
 -- A session is completed: it may be answered by a greeting and a snapshot.
-pub record Meets (rules : Rules) (n : ℕ) (a : Node) (origin inc : ℕ) (out : Output) (b : Node) : Type 0 where
+pub record Meets (rules : Rules) (n : ℕ) (a : Node) (origin inc : ℕ) (out : Output) (b : Node) :
+    Type 0 where
   pub hub : Hub
   pub meets : HubMeets rules n a.hub origin inc hub
   pub frames : List Frame
@@ -70,7 +100,8 @@ abbrev pub note_of : ℕ → ℕ → Change → Noted
 note_of n inc change = record { node = n; inc = inc; change = change }
 
 -- Changes of interest are collected, or a session is greeted, or a peer gets a snapshot.
-pub record Announces (c : Config) (n : ℕ) (a : Node) (changes : List Change) (out : Output) (b : Node) : Type 0 where
+pub record Announces (c : Config) (n : ℕ) (a : Node) (changes : List Change) (out : Output)
+    (b : Node) : Type 0 where
   pub hub : Hub
   pub frames : List Frame
   pub announces : HubAnnounces c n a.inc a.hub changes frames hub
@@ -78,7 +109,8 @@ pub record Announces (c : Config) (n : ℕ) (a : Node) (changes : List Change) (
   pub after : b ≡ record a { hub = hub }
 
 -- An event of one shard.
-pub record AtShard (rules : Rules) (c : Config) (n now s : ℕ) (a : Node) (e : ShardEvent) (out : Output) (b : Node) : Type 0 where
+pub record AtShard (rules : Rules) (c : Config) (n now s : ℕ) (a : Node) (e : ShardEvent)
+    (out : Output) (b : Node) : Type 0 where
   pub old : Shard
   pub old_is : slice_get a.shards s ≡ Some old
   pub new : Shard

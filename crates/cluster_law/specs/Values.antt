@@ -3,4 +3,9 @@ use Rattle.subj.specs.Messages as subj
 use Rattle.cluster_law.specs.Messages.{Content}
 
 abbrev pub content_of : subj.Content → Content
-content_of content = record { subject = content.subject; reply = content.reply; headers = content.headers; payload = content.payload }
+content_of content = record {
+  subject = content.subject;
+  reply = content.reply;
+  headers = content.headers;
+  payload = content.payload;
+}

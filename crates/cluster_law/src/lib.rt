@@ -48,7 +48,10 @@ pub fn lines_are_in_order()
 
 /// As long as an incarnation runs, its shards' finished turns never become fewer, so none comes again.
 pub fn finished_turns_stay()
-    ensures { (c : Config) (w : World) (events : List Event) (w' : World) → Reached every_rule c w → Run every_rule c w events w' → TurnsStay w w' }
+    ensures { (c : Config) (w : World) (events : List Event) (w' : World)
+        → Reached every_rule c w
+        → Run every_rule c w events w'
+        → TurnsStay w w' }
 {}
 
 /// Each view that a node keeps of another is the interest of the incarnation that it has seen, after some number of changes that this incarnation has made.
@@ -58,13 +61,18 @@ pub fn views_are_of_origin()
 
 /// One more step of a world that is reached leads to one that is reached. Whoever shows each step of a machine that knows more to be a step of this one has these laws there too.
 pub fn steps_reach()
-    ensures { (c : Config) (w w' : World) (e : Event) → Reached every_rule c w → Step every_rule c w e w' → Reached every_rule c w' }
+    ensures { (c : Config) (w w' : World) (e : Event)
+        → Reached every_rule c w
+        → Step every_rule c w e w'
+        → Reached every_rule c w' }
 {}
 
 /// A machine that knows more of its nodes has these laws too. Where each next world, as far as this machine sees it, is a step or no change, each of its worlds is one that is
 /// reached.
 pub fn paths_are_reached()
-    ensures { (c : Config) (worlds : List World) → Path c (begin c) worlds → Each (Reached every_rule c) worlds }
+    ensures { (c : Config) (worlds : List World)
+        → Path c (begin c) worlds
+        → Each (Reached every_rule c) worlds }
 {}
 
 /// The laws are not empty: a run of two nodes in which a queue member and a plain subscription of the other node both get a message, a repeated frame is refused, and a restart

@@ -1,5 +1,6 @@
--- What a server answers to an event that is not refused: of what its shards, its hub and its sessions answer, that which the
--- caller is told. What is put into outboxes, and what closes, is told apart.
+-- What a server answers to an event that is not refused: of what its shards, its hub and its
+-- sessions answer, that which the caller is told. What is put into outboxes, and what closes, is
+-- told apart.
 use Rattle.std.specs.Prelude.{ℕ, Bool, List, length, Option, Some, None}
 use Rattle.outbox.specs.Views.{Written}
 use Rattle.subj.specs.Servers.{ServerIdentity}
@@ -91,19 +92,33 @@ told_at None event = Nothing
 told_at (Some line) event = told_of_line line (event line)
 
 abbrev pub own_answer : ServerIdentity → Node → OwnEvent → Bool → Answer
-own_answer server a (OfConn conn event) won = told_at (conn_line server a conn) (λ line. Some (conn_event conn event))
+own_answer server a (OfConn conn event) won =
+    told_at (conn_line server a conn) (λ line. Some (conn_event conn event))
 own_answer server a (AtShard shard work) won = told_at (shard_line a shard) (work_event work won)
-own_answer server a (Publish p) won = told_of_hub (hub_answer server a.hub (of_hub.Publish p (finished_turns a.lines)))
-own_answer server a (Collect shard) won = told_of_hub (hub_answer server a.hub (of_hub.Collect shard (deltas_at (shard_line a shard))))
+own_answer server a (Publish p) won =
+    told_of_hub (hub_answer server a.hub (of_hub.Publish p (finished_turns a.lines)))
+own_answer server a (Collect shard) won =
+    told_of_hub (hub_answer server a.hub (of_hub.Collect shard (deltas_at (shard_line a shard))))
 own_answer server a Drain won = told_of_hub (hub_answer server a.hub of_hub.Drain)
-own_answer server a (Dial q) won = told_of_sessions (session_answer server a.sessions (of_sessions.Dial q))
-own_answer server a Accept won = told_of_sessions (session_answer server a.sessions of_sessions.Accept)
-own_answer server a (CutSession session) won = told_of_sessions (session_answer server a.sessions (of_sessions.Cut session))
-own_answer server a (TakeFrames q count) won = told_of_hub (hub_answer server a.hub (of_hub.TakeFrom q count))
+own_answer server a (Dial q) won =
+    told_of_sessions (session_answer server a.sessions (of_sessions.Dial q))
+own_answer server a Accept won =
+    told_of_sessions (session_answer server a.sessions of_sessions.Accept)
+own_answer server a (CutSession session) won =
+    told_of_sessions (session_answer server a.sessions (of_sessions.Cut session))
+own_answer server a (TakeFrames q count) won =
+    told_of_hub (hub_answer server a.hub (of_hub.TakeFrom q count))
 
 -- with whether a claim was won; it is looked at only there
 abbrev pub node_answer : ServerIdentity → Node → NodeEvent → Bool → Answer
 node_answer server a (Own event) won = own_answer server a event won
-node_answer server a (Receive frame) won = told_of_hub (hub_answer server a.hub (of_hub.Receive frame (finished_turns a.lines)))
-node_answer server a (OnInfo session info) won = told_of_sessions (session_answer server a.sessions (of_sessions.OnInfo session info (seen_name server a info.server_name)))
-node_answer server a (OnConnect session connect) won = told_of_sessions (session_answer server a.sessions (of_sessions.OnConnect session connect (seen_name server a connect.server_name)))
+node_answer server a (Receive frame) won =
+    told_of_hub (hub_answer server a.hub (of_hub.Receive frame (finished_turns a.lines)))
+node_answer server a (OnInfo session info) won =
+    told_of_sessions
+    (session_answer server a.sessions
+    (of_sessions.OnInfo session info (seen_name server a info.server_name)))
+node_answer server a (OnConnect session connect) won =
+    told_of_sessions
+    (session_answer server a.sessions
+    (of_sessions.OnConnect session connect (seen_name server a connect.server_name)))

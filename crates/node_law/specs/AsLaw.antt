@@ -42,7 +42,14 @@ use Rattle.node_law.specs.Sound.{SoundNode}
 
 -- the law's parameters, as the router has them
 abbrev pub law_of : List (List ℕ) → ℕ → Config
-law_of names shards = record { nodes = length names; shards = shards; window = WINDOW; queue_names = MAX_QUEUE_NAMES; matches = subject_matches; follow = follow }
+law_of names shards = record {
+  nodes = length names;
+  shards = shards;
+  window = WINDOW;
+  queue_names = MAX_QUEUE_NAMES;
+  matches = subject_matches;
+  follow = follow;
+}
 
 abbrev pub law_at : ServerIdentity → Config
 law_at server = law_of server.names server.shards
@@ -52,12 +59,19 @@ line_of server line = shard_of (id_of server) server.me server.inc line.shard li
 
 -- its own race is the law's, as far as the window goes
 abbrev pub node_of : ServerIdentity → Node → law.Node
-node_of server a = record { up = true; inc = server.inc; hub = hub_of a.hub; race = race_of a.race; shards = map (line_of server) a.lines }
+node_of server a = record {
+  up = true;
+  inc = server.inc;
+  hub = hub_of a.hub;
+  race = race_of a.race;
+  shards = map (line_of server) a.lines;
+}
 
 -- INFO and CONNECT are greetings
 abbrev pub sent_of : ServerIdentity → RouteFrame → messages.Frame
 sent_of server (route.Info info) = messages.Greeting (place server info.server_name) info.inc
-sent_of server (route.Connect connect) = messages.Greeting (place server connect.server_name) connect.inc
+sent_of server (route.Connect connect) =
+    messages.Greeting (place server connect.server_name) connect.inc
 sent_of server (route.Numbered frame) = frame_of server frame
 
 -- ---- the shard's part of an event: at which place, of which line, and what it is there
@@ -71,13 +85,19 @@ abbrev pub part_if : ℕ → ShardWithJobs → Option of_shard.Event → Option 
 part_if place line None = None
 part_if place line (Some event) = Some (record { place = place; line = line; event = event })
 
-abbrev pub part_at : ℕ → (ShardWithJobs → Option of_shard.Event) → Option ShardWithJobs → Option Part
+abbrev pub part_at : ℕ
+    → (ShardWithJobs → Option of_shard.Event)
+    → Option ShardWithJobs
+    → Option Part
 part_at place event None = None
 part_at place event (Some line) = part_if place line (event line)
 
 abbrev pub own_part : ServerIdentity → Node → OwnEvent → Bool → Option Part
-own_part server a (OfConn conn event) won = part_at (conn_place server conn) (λ line. Some (conn_event conn event)) (conn_line server a conn)
-own_part server a (AtShard shard work) won = part_at (shard - 1) (work_event work won) (shard_line a shard)
+own_part server a (OfConn conn event) won =
+    part_at (conn_place server conn) (λ line. Some (conn_event conn event))
+    (conn_line server a conn)
+own_part server a (AtShard shard work) won =
+    part_at (shard - 1) (work_event work won) (shard_line a shard)
 own_part server a (Publish p) won = None
 own_part server a (Collect shard) won = None
 own_part server a Drain won = None
@@ -98,26 +118,36 @@ abbrev pub given_at : Option Part → List Subscription
 given_at None = []
 given_at (Some part) = given_by part.line.shard part.event
 
-abbrev pub placements_at : ServerIdentity → ℕ → Option Part → List Subscription → List history.Placement
+abbrev pub placements_at : ServerIdentity → ℕ → Option Part → List Subscription
+    → List history.Placement
 placements_at server now None subs = []
-placements_at server now (Some part) subs = placements_for (id_of server) server.me server.inc now part.place (job_by part.line.shard part.event) subs
+placements_at server now (Some part) subs =
+    placements_for (id_of server) server.me server.inc now part.place
+    (job_by part.line.shard part.event) subs
 
 abbrev pub entries_for_job : ℕ → List Client → Option Job → List Subscription → List Written
 entries_for_job shard clients None subs = []
-entries_for_job shard clients (Some job) subs = map (λ sub. owed_entry shard clients job sub.key.queue sub) subs
+entries_for_job shard clients (Some job) subs =
+    map (λ sub. owed_entry shard clients job sub.key.queue sub) subs
 
--- the messages given to a connection of the shard at this place, in order, in the form that it takes
+-- the messages given to a connection of the shard at this place, in order, in the form that it
+-- takes
 abbrev pub messages_at : Option Part → ℕ → ℕ → List Written
 messages_at None place conn = []
 messages_at (Some part) place conn =
     if nat_eq part.place place
-    then entries_for_job part.line.shard.shard part.line.shard.clients (job_by part.line.shard part.event) (filter (is_of conn) (given_by part.line.shard part.event))
+    then entries_for_job part.line.shard.shard part.line.shard.clients
+    (job_by part.line.shard part.event) (filter (is_of conn) (given_by part.line.shard part.event))
     else []
 
 -- ---- what a step adds to the histories
 
 abbrev pub publication_of : ServerIdentity → ℕ → Node → Publication → messages.Publication
-publication_of server now a p = record { id = id_of server (next_id server a.hub); content = content_of p.publication.message; step = now }
+publication_of server now a p = record {
+  id = id_of server (next_id server a.hub);
+  content = content_of p.publication.message;
+  step = now;
+}
 
 abbrev pub own_publications : ServerIdentity → ℕ → Node → OwnEvent → List messages.Publication
 own_publications server now a (OfConn conn event) = []
@@ -136,12 +166,15 @@ publications_by server now a (Receive frame) = []
 publications_by server now a (OnInfo session info) = []
 publications_by server now a (OnConnect session connect) = []
 
-abbrev pub conn_lives : ServerIdentity → ℕ → ℕ → ConnEvent → Option ShardWithJobs → List history.Life
+abbrev pub conn_lives : ServerIdentity → ℕ → ℕ → ConnEvent → Option ShardWithJobs
+    → List history.Life
 conn_lives server now conn event None = []
-conn_lives server now conn event (Some line) = lives_by server.me server.inc now (conn_place server conn) line.shard (conn_event conn event)
+conn_lives server now conn event (Some line) =
+    lives_by server.me server.inc now (conn_place server conn) line.shard (conn_event conn event)
 
 abbrev pub own_lives : ServerIdentity → ℕ → Node → OwnEvent → List history.Life
-own_lives server now a (OfConn conn event) = conn_lives server now conn event (conn_line server a conn)
+own_lives server now a (OfConn conn event) =
+    conn_lives server now conn event (conn_line server a conn)
 own_lives server now a (AtShard shard work) = []
 own_lives server now a (Publish p) = []
 own_lives server now a (Collect shard) = []
@@ -203,8 +236,10 @@ changes_by a (OnConnect session connect) = []
 abbrev pub Shown : ServerIdentity → NodeEvent → law.NodeEvent → Type 0
 Shown server (Own event) x = IsOwn x
 Shown server (Receive frame) x = x ≡ law.Receive (frame_of server frame)
-Shown server (OnInfo session info) x = x ≡ law.Receive (messages.Greeting (place server info.server_name) info.inc)
-Shown server (OnConnect session connect) x = x ≡ law.Receive (messages.Greeting (place server connect.server_name) connect.inc)
+Shown server (OnInfo session info) x =
+    x ≡ law.Receive (messages.Greeting (place server info.server_name) info.inc)
+Shown server (OnConnect session connect) x =
+    x ≡ law.Receive (messages.Greeting (place server connect.server_name) connect.inc)
 
 abbrev pub is_open_in : ℕ → Option ShardWithJobs → Bool
 is_open_in serial None = false
@@ -216,11 +251,16 @@ pub record IsOpenAt (server : ServerIdentity) (a : Node) (id : names.LifeId) : T
   pub inc : id.inc ≡ server.inc
   pub is_open : is_open_in id.serial (slice_get a.lines id.shard) ≡ true
 
--- A server becomes another by a step of the law's node, which is this event there, and adds these to the histories. What was
--- open before and is not after has closed now; what is opened is open after.
-pub record Moves (server : ServerIdentity) (now : ℕ) (a b : Node) (x : law.NodeEvent) (publications : List messages.Publication) (frames : List messages.Frame) (changes : List Change) (jobs : List Job) (lives : List history.Life) (placements : List history.Placement) : Type 0 where
+-- A server becomes another by a step of the law's node, which is this event there, and adds these
+-- to the histories. What was open before and is not after has closed now; what is opened is open
+-- after.
+pub record Moves (server : ServerIdentity) (now : ℕ) (a b : Node) (x : law.NodeEvent)
+    (publications : List messages.Publication) (frames : List messages.Frame)
+    (changes : List Change) (jobs : List Job) (lives : List history.Life)
+    (placements : List history.Placement) : Type 0 where
   pub out : history.Output
-  pub steps : law.NodeStep every_rule (law_at server) server.me now (node_of server a) x out (node_of server b)
+  pub steps : law.NodeStep every_rule (law_at server) server.me now (node_of server a) x out
+      (node_of server b)
   pub publications_are : out.publications ≡ publications
   pub frames_are : out.frames ≡ frames
   pub changes_are : out.changes ≡ map (law.note_of server.me server.inc) (map change_of changes)
@@ -228,18 +268,33 @@ pub record Moves (server : ServerIdentity) (now : ℕ) (a b : Node) (x : law.Nod
   pub lives_are : out.lives ≡ lives
   pub placements_are : out.placements ≡ placements
   pub opened : Each (λ life. IsOpenAt server b life.id) lives
-  pub closings : (place serial : ℕ) → is_open_in serial (slice_get a.lines place) ≡ true → is_open_in serial (slice_get b.lines place) ≡ false → In (record { life = law_shard.life_id server.me server.inc place serial; step = now }) out.closings
+  pub closings : (place serial : ℕ)
+      → is_open_in serial (slice_get a.lines place) ≡ true
+      → is_open_in serial (slice_get b.lines place) ≡ false
+      → In (record { life = law_shard.life_id server.me server.inc place serial; step = now })
+      out.closings
 
 -- what a step shows that gives a message to these subscriptions
-abbrev pub NodeMoves : ServerIdentity → ℕ → Node → NodeEvent → Bool → Node → List Subscription → Type 0
+abbrev pub NodeMoves : ServerIdentity → ℕ → Node → NodeEvent → Bool → Node → List Subscription
+    → Type 0
 NodeMoves server now a e won b subs =
-    (x : law.NodeEvent) × Shown server e x × Moves server now a b x (publications_by server now a e) (map (sent_of server) (node_frames server a e)) (changes_by a e) (jobs_by server a e) (lives_at server now a e) (placements_at server now (part_of server a e won) subs)
+    (x : law.NodeEvent)
+    × Shown server e x
+    × Moves server now a b x (publications_by server now a e)
+    (map (sent_of server) (node_frames server a e)) (changes_by a e) (jobs_by server a e)
+    (lives_at server now a e) (placements_at server now (part_of server a e won) subs)
 
--- each step of a sound server is a step of the law's node, whatever the order in which its messages are listed
+-- each step of a sound server is a step of the law's node, whatever the order in which its messages
+-- are listed
 abbrev pub NodeFollows : Type 0
 NodeFollows =
-    (server : ServerIdentity) (now : ℕ) (a : Node) (e : NodeEvent) (won : Bool) (race : RaceState) (b : Node) (subs : List Subscription)
-    → IsListed server → SoundNode server a → NodeStep server a e won race b → AreThese (given_at (part_of server a e won)) subs → NodeMoves server now a e won b subs
+    (server : ServerIdentity) (now : ℕ) (a : Node) (e : NodeEvent) (won : Bool) (race : RaceState)
+    (b : Node) (subs : List Subscription)
+    → IsListed server
+    → SoundNode server a
+    → NodeStep server a e won race b
+    → AreThese (given_at (part_of server a e won)) subs
+    → NodeMoves server now a e won b subs
 
 -- a sound server stays so
 abbrev pub StaysSound : Type 0
@@ -272,6 +327,8 @@ is_message entry = is_message_tag entry.tag
 -- behind what waited stand, of messages, just those given, in order
 abbrev pub MessagesAreGiven : Type 0
 MessagesAreGiven =
-    (server : ServerIdentity) (a : Node) (e : NodeEvent) (won : Bool) (race : RaceState) (b : Node) (place conn : ℕ)
+    (server : ServerIdentity) (a : Node) (e : NodeEvent) (won : Bool) (race : RaceState) (b : Node)
+    (place conn : ℕ)
     → NodeStep server a e won race b
-    → filter is_message (drop (length (waits_at a place conn)) (waits_at b place conn)) ≡ messages_at (part_of server a e won) place conn
+    → filter is_message (drop (length (waits_at a place conn)) (waits_at b place conn))
+    ≡ messages_at (part_of server a e won) place conn

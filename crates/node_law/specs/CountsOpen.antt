@@ -26,12 +26,19 @@ open_keys lines = flat_map (λ line. keys_of line.shard.subs) lines
 abbrev pub pending : List ShardWithJobs → List Delta
 pending lines = flat_map (λ line. line.shard.deltas) lines
 
--- Of each key the hub's count and the openings that it was not told of are together the open subscriptions and the closings
--- that it was not told of. And no shard has deltas that a Collect refuses.
+-- Of each key the hub's count and the openings that it was not told of are together the open
+-- subscriptions and the closings that it was not told of. And no shard has deltas that a Collect
+-- refuses.
 pub record CountsAreOpen (server : ServerIdentity) (a : Node) : Type 0 where
-  pub counts : (key : Key) → count_of a.hub.counts key + count_by (is_opening key) (pending a.lines) ≡ times key (open_keys a.lines) + count_by (is_closing key) (pending a.lines)
+  pub counts : (key : Key)
+      → count_of a.hub.counts key + count_by (is_opening key) (pending a.lines)
+      ≡ times key (open_keys a.lines) + count_by (is_closing key) (pending a.lines)
   pub taken : (shard : ℕ) → node_refusal server a (Own (Collect shard)) ≢ Some (Hub BadInterest)
 
 -- of every run of a server from its start
 abbrev pub CountsStayOpen : Type 0
-CountsStayOpen = (server : ServerIdentity) (h : List Done) (a : Node) → IsListed server → Ran server h a → CountsAreOpen server a
+CountsStayOpen =
+    (server : ServerIdentity) (h : List Done) (a : Node)
+    → IsListed server
+    → Ran server h a
+    → CountsAreOpen server a

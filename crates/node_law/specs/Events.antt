@@ -1,9 +1,11 @@
--- What a server is asked. Shards and sessions are counted from 1, and servers are named by their places.
+-- What a server is asked. Shards and sessions are counted from 1, and servers are named by their
+-- places.
 use Rattle.std.specs.Prelude.{ℕ}
 use Rattle.hub_core.specs.Publishing.{Publication}
 use Rattle.route_values.specs.Frames.{Frame}
 use Rattle.route_values.specs.Records.{Info, Connect}
--- of a connection; and of a shard: its connections are attached, and the first job that waits is begun
+-- of a connection; and of a shard: its connections are attached, and the first job that waits is
+-- begun
 pub use Rattle.node_law.specs.declared.events.ConnEvent.{ConnEvent}
 pub use Rattle.node_law.specs.declared.events.ConnEvent.TheVariants.{Subscribe, Unsubscribe, Reply, Shut, SetHeaders, Detach, Take}
 pub use Rattle.node_law.specs.declared.events.ShardWork.{ShardWork}

@@ -1,6 +1,7 @@
 -- the number 58 of the refusal of a server itself
 pub mod Faults
--- the race of a server as the cluster law's race: a pair is won there just where some shard has won it
+-- the race of a server as the cluster law's race: a pair is won there just where some shard has won
+-- it
 pub mod Race
 -- a server as its callers see it
 pub mod State
@@ -16,15 +17,18 @@ pub mod Sound
 pub mod AsLaw
 -- runs of one server: what it did since it started, the newest step first
 pub mod Runs
--- one server end to end: who wins a queue name of a job, what that puts, and which jobs the shards work off
+-- one server end to end: who wins a queue name of a job, what that puts, and which jobs the shards
+-- work off
 pub mod OneServer
--- peers and sessions: a peer is up at an incarnation just where a kept session has it, and that is the greatest seen of it
+-- peers and sessions: a peer is up at an incarnation just where a kept session has it, and that is
+-- the greatest seen of it
 pub mod PeersKept
 -- interest: what the hub counts, together with what the shards have still to tell, is what is open
 pub mod CountsOpen
 -- what a server places over a whole run for a queue name of a job, as one list
 pub mod PlacedOnce
--- what each connection is given over a run: the replies put for it and the messages owed to it, in order, and its last line
+-- what each connection is given over a run: the replies put for it and the messages owed to it, in
+-- order, and its last line
 pub mod Outboxes
 -- the hub of a server over its runs
 pub mod HubsSound

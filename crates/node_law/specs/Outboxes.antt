@@ -1,4 +1,5 @@
--- What each connection is given over a run: the replies put for it and the messages owed to it, in order, and its last line.
+-- What each connection is given over a run: the replies put for it and the messages owed to it, in
+-- order, and its last line.
 use Rattle.std.specs.Prelude.{◌≡◌, ℕ, Bool, false, nat_eq, List, [], ◌∷◌, ◌++◌, map, take, length, slice_get, Option, Some, None, if◌then◌else◌}
 use Rattle.client_frames.specs.ErrTexts.{err_line}
 use Rattle.client_frames.specs.Frames.{reply_line}
@@ -18,14 +19,16 @@ use Rattle.node_law.specs.State.{ShardWithJobs, Node}
 
 -- the replies that are handed in and have room, and the messages
 abbrev pub due_by : State → Event → List Placed
-due_by s (Reply conn frame) = if answer_fits s conn (reply_line frame) then put_line (reply_line frame) conn ∷ [] else []
+due_by s (Reply conn frame) =
+    if answer_fits s conn (reply_line frame) then put_line (reply_line frame) conn ∷ [] else []
 due_by s (Begin job) = map (owed_placed s.shard s.clients job None) (whole_walk s job).given
 due_by s (Claim index won) = put_by_claim s s.hand (candidate_of s s.hand index) won
 due_by s other = []
 
 -- the last lines, of connections that are shut by it
 abbrev pub last_by : State → Event → List Placed
-last_by s (Reply conn frame) = if answer_fits s conn (reply_line frame) then [] else put_line slow_consumer conn ∷ []
+last_by s (Reply conn frame) =
+    if answer_fits s conn (reply_line frame) then [] else put_line slow_consumer conn ∷ []
 last_by s (Shut conn text) = put_line (err_line text) conn ∷ []
 last_by s (Begin job) = map (put_line slow_consumer) (whole_walk s job).shut
 last_by s other = []
@@ -54,16 +57,23 @@ no_history = record { due = []; last = []; taken = [] }
 abbrev pub after_event : State → Event → ℕ → History → History
 after_event s e conn x =
     if is_detach conn e then no_history
-    else record { due = x.due ++ entries_for conn (due_by s e); last = x.last ++ entries_for conn (last_by s e); taken = x.taken ++ taken_by e conn (waits_for conn s.clients) }
+    else record {
+      due = x.due ++ entries_for conn (due_by s e);
+      last = x.last ++ entries_for conn (last_by s e);
+      taken = x.taken ++ taken_by e conn (waits_for conn s.clients);
+    }
 
 -- of a connection of the shard at this place
 abbrev pub after_part : Option Part → ℕ → ℕ → History → History
 after_part None place conn x = x
-after_part (Some part) place conn x = if nat_eq part.place place then after_event part.line.shard part.event conn x else x
+after_part (Some part) place conn x =
+    if nat_eq part.place place then after_event part.line.shard part.event conn x else x
 
 abbrev pub history_of : ServerIdentity → List Done → ℕ → ℕ → History
 history_of server [] place conn = no_history
-history_of server (d ∷ earlier) place conn = after_part (part_of server d.before d.event d.won) place conn (history_of server earlier place conn)
+history_of server (d ∷ earlier) place conn =
+    after_part (part_of server d.before d.event d.won) place conn
+    (history_of server earlier place conn)
 
 -- ---- what was taken and what waits is what was put
 
@@ -82,12 +92,16 @@ shut_in conn (Some line) = is_shut conn line.shard.clients
 abbrev pub is_shut_at : Node → ℕ → ℕ → Bool
 is_shut_at a place conn = shut_in conn (slice_get a.lines place)
 
--- All that was put was taken or waits, in order. The last line stands behind all else, and there is one just where the
--- connection is shut.
+-- All that was put was taken or waits, in order. The last line stands behind all else, and there is
+-- one just where the connection is shut.
 pub record IsKnown (x : History) (waits : List Written) (shut : Bool) : Type 0 where
   pub all : x.taken ++ waits ≡ x.due ++ x.last
   pub last : length x.last ≡ (if shut then 1 else 0)
 
 -- of every run, and each connection
 abbrev pub OutboxesAreKnown : Type 0
-OutboxesAreKnown = (server : ServerIdentity) (h : List Done) (a : Node) → Ran server h a → (place conn : ℕ) → IsKnown (history_of server h place conn) (waits_at a place conn) (is_shut_at a place conn)
+OutboxesAreKnown =
+    (server : ServerIdentity) (h : List Done) (a : Node)
+    → Ran server h a
+    → (place conn : ℕ)
+    → IsKnown (history_of server h place conn) (waits_at a place conn) (is_shut_at a place conn)

@@ -1,4 +1,5 @@
--- Peers and sessions: a peer is up at an incarnation just where a kept session has it, and that is the greatest seen of it.
+-- Peers and sessions: a peer is up at an incarnation just where a kept session has it, and that is
+-- the greatest seen of it.
 use Rattle.std.specs.Prelude.{◌≡◌, ◌⊎◌, ◌↔◌, ℕ, ◌≤◌, true, List, [], ◌∷◌, ◌++◌, slice_get, Some}
 use Rattle.list_laws.specs.Lists.{In, Each, Pairs}
 use Rattle.subj.specs.Servers.{ServerIdentity, IsListed, place}
@@ -27,9 +28,11 @@ pub record KeptAt (standing : List Session) (q inc : ℕ) : Type 0 where
 
 -- no two sessions are kept for one peer
 abbrev pub KeptOnce : List Session → Type 0
-KeptOnce standing = Pairs (λ x y. (q : ℕ) → is_of_peer q x.kept ≡ true → is_of_peer q y.kept ≡ true → ⊥) standing
+KeptOnce standing =
+    Pairs (λ x y. (q : ℕ) → is_of_peer q x.kept ≡ true → is_of_peer q y.kept ≡ true → ⊥) standing
 
--- ---- the incarnations seen: of a frame, an INFO or a CONNECT that was not refused, with the place of its sender
+-- ---- the incarnations seen: of a frame, an INFO or a CONNECT that was not refused, with the place
+-- of its sender
 
 abbrev pub seen_in : ServerIdentity → NodeEvent → List (ℕ × ℕ)
 seen_in server (Own event) = []
@@ -50,8 +53,14 @@ pub record IsGreatest (q inc : ℕ) (seen : List (ℕ × ℕ)) : Type 0 where
 pub record PeersAreKept (a : Node) (seen : List (ℕ × ℕ)) : Type 0 where
   pub up : (q inc : ℕ) → IsUpAt a q inc ↔ KeptAt a.sessions.standing q inc
   pub once : KeptOnce a.sessions.standing
-  pub greatest : (q : ℕ) (peer : Peer) → slice_get a.hub.peers q ≡ Some peer → IsGreatest q peer.seen seen
+  pub greatest : (q : ℕ) (peer : Peer)
+      → slice_get a.hub.peers q ≡ Some peer
+      → IsGreatest q peer.seen seen
 
 -- of every run of a server from its start
 abbrev pub KeepsPeers : Type 0
-KeepsPeers = (server : ServerIdentity) (h : List Done) (a : Node) → IsListed server → Ran server h a → PeersAreKept a (seen_of_run server h)
+KeepsPeers =
+    (server : ServerIdentity) (h : List Done) (a : Node)
+    → IsListed server
+    → Ran server h a
+    → PeersAreKept a (seen_of_run server h)

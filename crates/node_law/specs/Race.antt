@@ -1,4 +1,5 @@
--- The race of a server as the cluster law's race: a pair is won there just where some shard has won it.
+-- The race of a server as the cluster law's race: a pair is won there just where some shard has won
+-- it.
 use Rattle.std.specs.Prelude.{◌≡◌, ℕ, suc, true, false, Bool, map}
 use Rattle.list_laws.specs.Lists.{In}
 use Rattle.cluster_law.specs.Config.{every_rule}
@@ -24,6 +25,12 @@ Decides old turn index false new = In (turn, index) old.won × Keeps WINDOW old 
 
 -- what the calls of a race promise
 pub record RaceFollows : Type 0 where
-  pub issues : (old : RaceState) (turn : ℕ) (new : RaceState) → IsIssued old turn new → IssuesNext (race_of old) (race_of new)
-  pub claims : (old : RaceState) (shard turn index : ℕ) (won : Bool) (new : RaceState) → IsClaimed old shard turn index won new → Decides (race_of old) turn index won (race_of new)
-  pub finishes : (old : RaceState) (shard turn : ℕ) (new : RaceState) → IsFinished old shard turn new → Keeps WINDOW (race_of old) (race_of new)
+  pub issues : (old : RaceState) (turn : ℕ) (new : RaceState)
+      → IsIssued old turn new
+      → IssuesNext (race_of old) (race_of new)
+  pub claims : (old : RaceState) (shard turn index : ℕ) (won : Bool) (new : RaceState)
+      → IsClaimed old shard turn index won new
+      → Decides (race_of old) turn index won (race_of new)
+  pub finishes : (old : RaceState) (shard turn : ℕ) (new : RaceState)
+      → IsFinished old shard turn new
+      → Keeps WINDOW (race_of old) (race_of new)

@@ -33,10 +33,20 @@ lines_from shards shard zero = []
 lines_from shards shard (suc count) = new_line shards shard ∷ lines_from shards (suc shard) count
 
 abbrev pub new_race : ℕ → RaceState
-new_race shards = record { issued = 0; finished = replicate shards 0; next = replicate shards 0; won = [] }
+new_race shards = record {
+  issued = 0;
+  finished = replicate shards 0;
+  next = replicate shards 0;
+  won = [];
+}
 
 abbrev pub new_node : ServerIdentity → Node
-new_node server = record { hub = new_hub server; sessions = no_sessions; race = new_race server.shards; lines = lines_from server.shards 1 server.shards }
+new_node server = record {
+  hub = new_hub server;
+  sessions = no_sessions;
+  race = new_race server.shards;
+  lines = lines_from server.shards 1 server.shards;
+}
 
 abbrev pub finished_turns : List ShardWithJobs → List ℕ
 finished_turns lines = map (λ (line : ShardWithJobs). line.shard.finished) lines

@@ -75,7 +75,8 @@ work_event DrainShard won line = Some of_shard.Drain
 -- a connection of no shard is unknown
 abbrev pub conn_refusal : ConnEvent → ℕ → Option ShardWithJobs → Option NodeFault
 conn_refusal event conn None = Some (Shard NoConn)
-conn_refusal event conn (Some line) = option_map Shard (shard_refusal line.shard (conn_event conn event))
+conn_refusal event conn (Some line) =
+    option_map Shard (shard_refusal line.shard (conn_event conn event))
 
 -- without a job there is none to begin or drop; that one is in hand is told first
 abbrev pub no_job : Option Job → NodeFault
@@ -97,12 +98,14 @@ collect_refusal_at hub (Some line) = option_map Hub (collect_refusal hub line.sh
 abbrev pub own_refusal : ServerIdentity → Node → OwnEvent → Option NodeFault
 own_refusal server a (OfConn conn event) = conn_refusal event conn (conn_line server a conn)
 own_refusal server a (AtShard shard work) = work_refusal work (shard_line a shard)
-own_refusal server a (Publish p) = option_map Hub (publish_refusal server a.hub p (finished_turns a.lines))
+own_refusal server a (Publish p) =
+    option_map Hub (publish_refusal server a.hub p (finished_turns a.lines))
 own_refusal server a (Collect shard) = collect_refusal_at a.hub (shard_line a shard)
 own_refusal server a Drain = option_map Hub (drain_refusal a.hub)
 own_refusal server a (Dial q) = option_map Session (dial_refusal server a.sessions q)
 own_refusal server a Accept = option_map Session (room_refusal a.sessions)
-own_refusal server a (CutSession session) = option_map Session (cut_refusal (session_at session a.sessions.standing))
+own_refusal server a (CutSession session) =
+    option_map Session (cut_refusal (session_at session a.sessions.standing))
 own_refusal server a (TakeFrames q count) = option_map Hub (take_refusal server q)
 
 -- the greatest incarnation seen of a server, by its name
@@ -111,25 +114,38 @@ seen_name server a name = seen_of (peer_of server a.hub name)
 
 abbrev pub node_refusal : ServerIdentity → Node → NodeEvent → Option NodeFault
 node_refusal server a (Own event) = own_refusal server a event
-node_refusal server a (Receive frame) = option_map Hub (receive_refusal server a.hub (finished_turns a.lines) frame)
-node_refusal server a (OnInfo session info) = option_map Session (info_refusal server a.sessions (session_at session a.sessions.standing) info (seen_name server a info.server_name))
-node_refusal server a (OnConnect session connect) = option_map Session (connect_refusal server a.sessions (session_at session a.sessions.standing) connect (seen_name server a connect.server_name))
+node_refusal server a (Receive frame) =
+    option_map Hub (receive_refusal server a.hub (finished_turns a.lines) frame)
+node_refusal server a (OnInfo session info) =
+    option_map Session
+    (info_refusal server a.sessions (session_at session a.sessions.standing) info
+    (seen_name server a info.server_name))
+node_refusal server a (OnConnect session connect) =
+    option_map Session
+    (connect_refusal server a.sessions (session_at session a.sessions.standing) connect
+    (seen_name server a connect.server_name))
 
 -- ---- the race, which may forget what left the window
 
 -- a claim is made just where there is a candidate; else nothing is won
-abbrev pub ClaimRace : RaceState → ℕ → ℕ → Option Job → Option Subscription → Bool → RaceState → Type 0
+abbrev pub ClaimRace : RaceState → ℕ → ℕ → Option Job → Option Subscription → Bool → RaceState
+    → Type 0
 ClaimRace race shard index None sub won after = after ≡ race
 ClaimRace race shard index (Some job) None won after = after ≡ race
-ClaimRace race shard index (Some job) (Some sub) won after = IsClaimed race shard job.turn index won after
+ClaimRace race shard index (Some job) (Some sub) won after =
+    IsClaimed race shard job.turn index won after
 
 abbrev pub WorkRace : RaceState → ℕ → ShardWork → Option ShardWithJobs → Bool → RaceState → Type 0
 WorkRace race shard work None won after = after ≡ race
 WorkRace race shard Attach (Some line) won after = after ≡ race
 WorkRace race shard Begin (Some line) won after = after ≡ race
-WorkRace race shard (Claim index) (Some line) won after = ClaimRace race shard index line.shard.hand (candidate_of line.shard line.shard.hand index) won after
-WorkRace race shard End (Some line) won after = IsFinished race shard (line.shard.finished + 1) after
-WorkRace race shard DropJob (Some line) won after = IsFinished race shard (line.shard.finished + 1) after
+WorkRace race shard (Claim index) (Some line) won after =
+    ClaimRace race shard index line.shard.hand (candidate_of line.shard line.shard.hand index) won
+    after
+WorkRace race shard End (Some line) won after =
+    IsFinished race shard (line.shard.finished + 1) after
+WorkRace race shard DropJob (Some line) won after =
+    IsFinished race shard (line.shard.finished + 1) after
 WorkRace race shard DrainShard (Some line) won after = after ≡ race
 
 abbrev pub OwnRace : Node → OwnEvent → Bool → RaceState → Type 0
@@ -158,13 +174,17 @@ NodeRace a (OnConnect session connect) won after = after ≡ a.race
 -- ---- the server after an event that is not refused
 
 abbrev pub line_after : of_shard.Event → ShardWithJobs → ShardWithJobs
-line_after event line = record { shard = shard_after line.shard event; waiting = waiting_after line.shard.hand event line.waiting }
+line_after event line = record {
+  shard = shard_after line.shard event;
+  waiting = waiting_after line.shard.hand event line.waiting;
+}
 
 abbrev pub line_after_if : Option of_shard.Event → ShardWithJobs → ShardWithJobs
 line_after_if None line = line
 line_after_if (Some event) line = line_after event line
 
-abbrev pub set_line : List ShardWithJobs → ℕ → (ShardWithJobs → ShardWithJobs) → Option ShardWithJobs → List ShardWithJobs
+abbrev pub set_line : List ShardWithJobs → ℕ → (ShardWithJobs → ShardWithJobs)
+    → Option ShardWithJobs → List ShardWithJobs
 set_line lines place change None = lines
 set_line lines place change (Some line) = set lines place (change line)
 
@@ -181,14 +201,18 @@ deltas_at (Some line) = line.shard.deltas
 
 -- a peer without room for the frames of a collect is cut, and so is its kept session
 abbrev pub collected_at : ServerIdentity → Node → ℕ → List Delta → Node
-collected_at server a shard deltas = record (on_line a (shard - 1) (line_after of_shard.Collect) (shard_line a shard)) {
-  hub = after_collect server a.hub deltas;
-  sessions = without_peers (slow_peers a.hub deltas) a.sessions;
-}
+collected_at server a shard deltas =
+    record (on_line a (shard - 1) (line_after of_shard.Collect) (shard_line a shard)) {
+      hub = after_collect server a.hub deltas;
+      sessions = without_peers (slow_peers a.hub deltas) a.sessions;
+    }
 
 -- the same of a drain
 abbrev pub drained_at : ServerIdentity → Node → Node
-drained_at server a = record a { hub = after_drain server a.hub; sessions = without_peers (peers_too_slow a.hub) a.sessions }
+drained_at server a = record a {
+  hub = after_drain server a.hub;
+  sessions = without_peers (peers_too_slow a.hub) a.sessions;
+}
 
 -- the peer of a kept session is cut with it
 abbrev pub cut_if : hub.State → Option ℕ → hub.State
@@ -196,32 +220,62 @@ cut_if hub None = hub
 cut_if hub (Some q) = cut hub q
 
 abbrev pub own_after : ServerIdentity → Node → OwnEvent → Bool → RaceState → Node
-own_after server a (OfConn conn event) won race = on_line a (conn_place server conn) (line_after (conn_event conn event)) (conn_line server a conn)
-own_after server a (AtShard shard work) won race = record (on_line a (shard - 1) (λ line. line_after_if (work_event work won line) line) (shard_line a shard)) { race = race }
-own_after server a (Publish p) won race = record a { hub = after_publish server a.hub p; race = race; lines = map (line_with_job (own_job server a.hub p)) a.lines }
-own_after server a (Collect shard) won race = collected_at server a shard (deltas_at (shard_line a shard))
+own_after server a (OfConn conn event) won race =
+    on_line a (conn_place server conn) (line_after (conn_event conn event))
+    (conn_line server a conn)
+own_after server a (AtShard shard work) won race =
+    record (on_line a (shard - 1) (λ line. line_after_if (work_event work won line) line)
+    (shard_line a shard)) {
+      race = race;
+    }
+own_after server a (Publish p) won race = record a {
+  hub = after_publish server a.hub p;
+  race = race;
+  lines = map (line_with_job (own_job server a.hub p)) a.lines;
+}
+own_after server a (Collect shard) won race =
+    collected_at server a shard (deltas_at (shard_line a shard))
 own_after server a Drain won race = drained_at server a
 own_after server a (Dial q) won race = record a { sessions = after_dial a.sessions q }
 own_after server a Accept won race = record a { sessions = after_accept a.sessions }
-own_after server a (CutSession session) won race = record a { hub = cut_if a.hub (peer_of_session session a.sessions.standing); sessions = after_cut session a.sessions }
+own_after server a (CutSession session) won race = record a {
+  hub = cut_if a.hub (peer_of_session session a.sessions.standing);
+  sessions = after_cut session a.sessions;
+}
 own_after server a (TakeFrames q count) won race = record a { hub = after_take a.hub q count }
 
 -- a frame of a greater incarnation of its server ends the session that was kept with it
 abbrev pub sessions_after_frame : ServerIdentity → Node → Frame → sessions.State
-sessions_after_frame server a frame = if nat_lt (seen_name server a frame.from) frame.inc then without_peer (place server frame.from) a.sessions else a.sessions
+sessions_after_frame server a frame =
+    if nat_lt (seen_name server a frame.from) frame.inc
+    then without_peer (place server frame.from) a.sessions
+    else a.sessions
 
--- a message gives each shard its job, and goes to nobody else (NATS documentation, "Cluster Protocol")
+-- a message gives each shard its job, and goes to nobody else (NATS documentation, "Cluster
+-- Protocol")
 abbrev pub lines_after_body : Node → Frame → Body → List ShardWithJobs
 lines_after_body a frame (Plus weighted) = a.lines
 lines_after_body a frame (Minus key) = a.lines
 lines_after_body a frame (Snapshot keys) = a.lines
-lines_after_body a frame (Msg content queues) = map (line_with_job (routed_job a.hub frame content queues)) a.lines
+lines_after_body a frame (Msg content queues) =
+    map (line_with_job (routed_job a.hub frame content queues)) a.lines
 
 abbrev pub node_after : ServerIdentity → Node → NodeEvent → Bool → RaceState → Node
 node_after server a (Own event) won race = own_after server a event won race
-node_after server a (Receive frame) won race = record { hub = after_receive server a.hub frame; sessions = sessions_after_frame server a frame; race = race; lines = lines_after_body a frame frame.body }
-node_after server a (OnInfo session info) won race = record a { hub = up server a.hub (place server info.server_name) info.inc; sessions = after_info server a.sessions info (session_at session a.sessions.standing) }
-node_after server a (OnConnect session connect) won race = record a { hub = up server a.hub (place server connect.server_name) connect.inc; sessions = after_completion session (connect_offer server connect) a.sessions }
+node_after server a (Receive frame) won race = record {
+  hub = after_receive server a.hub frame;
+  sessions = sessions_after_frame server a frame;
+  race = race;
+  lines = lines_after_body a frame frame.body;
+}
+node_after server a (OnInfo session info) won race = record a {
+  hub = up server a.hub (place server info.server_name) info.inc;
+  sessions = after_info server a.sessions info (session_at session a.sessions.standing);
+}
+node_after server a (OnConnect session connect) won race = record a {
+  hub = up server a.hub (place server connect.server_name) connect.inc;
+  sessions = after_completion session (connect_offer server connect) a.sessions;
+}
 
 -- ---- the frames that it puts for peers, or gives to a session, in order
 
@@ -229,7 +283,8 @@ abbrev pub own_frames : ServerIdentity → Node → OwnEvent → List RouteFrame
 own_frames server a (OfConn conn event) = []
 own_frames server a (AtShard shard work) = []
 own_frames server a (Publish p) = map route.Numbered (frames_of server a.hub p)
-own_frames server a (Collect shard) = map route.Numbered (collect_frames server a.hub (deltas_at (shard_line a shard)))
+own_frames server a (Collect shard) =
+    map route.Numbered (collect_frames server a.hub (deltas_at (shard_line a shard)))
 own_frames server a Drain = map route.Numbered (drain_frames server a.hub)
 own_frames server a (Dial q) = []
 own_frames server a Accept = route.Info (own_info server) ∷ []
@@ -239,11 +294,15 @@ own_frames server a (TakeFrames q count) = []
 abbrev pub node_frames : ServerIdentity → Node → NodeEvent → List RouteFrame
 node_frames server a (Own event) = own_frames server a event
 node_frames server a (Receive frame) = []
-node_frames server a (OnInfo session info) = route.Connect (own_connect server info (serial_of (session_at session a.sessions.standing))) ∷ route.Numbered (snapshot_to server a.hub (place server info.server_name) info.inc) ∷ []
-node_frames server a (OnConnect session connect) = route.Numbered (snapshot_to server a.hub (place server connect.server_name) connect.inc) ∷ []
+node_frames server a (OnInfo session info) =
+    route.Connect (own_connect server info (serial_of (session_at session a.sessions.standing)))
+    ∷ route.Numbered (snapshot_to server a.hub (place server info.server_name) info.inc) ∷ []
+node_frames server a (OnConnect session connect) =
+    route.Numbered (snapshot_to server a.hub (place server connect.server_name) connect.inc) ∷ []
 
 -- ---- the step: whether a claim was won, and the race after it, are the race's to say
-pub record NodeStep (server : ServerIdentity) (a : Node) (event : NodeEvent) (won : Bool) (race : RaceState) (b : Node) : Type 0 where
+pub record NodeStep (server : ServerIdentity) (a : Node) (event : NodeEvent) (won : Bool)
+    (race : RaceState) (b : Node) : Type 0 where
   pub cause : node_refusal server a event ≡ None
   pub moves : NodeRace a event won race
   pub after : b ≡ node_after server a event won race

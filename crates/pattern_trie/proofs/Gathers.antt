@@ -19,22 +19,34 @@ use Rattle.pattern_trie.proofs.Lists.{begins_itself}
 
 -- ---- lists of token lists
 
-values_under_append : {V : Type 0} (held : List (Held V)) (path : List ℕ) (ms ns : List (List (List ℕ))) → values_under held path (ms ++ ns) ≡ values_under held path ms ++ values_under held path ns
+values_under_append : {V : Type 0} (held : List (Held V)) (path : List ℕ) (ms ns : List (List (List ℕ)))
+    → values_under held path (ms ++ ns) ≡ values_under held path ms ++ values_under held path ns
 values_under_append held path [] ns = refl
-values_under_append held path (m ∷ ms) ns = ap (λ vs. values_for (text_with_tokens path m) held ++ vs) (values_under_append held path ms ns) ∙ sym (append_assoc (values_for (text_with_tokens path m) held) (values_under held path ms) (values_under held path ns))
+values_under_append held path (m ∷ ms) ns =
+    ap (λ vs. values_for (text_with_tokens path m) held ++ vs) (values_under_append held path ms ns)
+    ∙ sym
+    (append_assoc (values_for (text_with_tokens path m) held) (values_under held path ms) (values_under held path ns))
 
-values_under_behind : {V : Type 0} (held : List (Held V)) (path token : List ℕ) (ms : List (List (List ℕ))) → values_under held path (map (λ m. token ∷ m) ms) ≡ values_under held (text_with_token path token) ms
+values_under_behind : {V : Type 0} (held : List (Held V)) (path token : List ℕ) (ms : List (List (List ℕ)))
+    → values_under held path (map (λ m. token ∷ m) ms) ≡ values_under held (text_with_token path token) ms
 values_under_behind held path token [] = refl
-values_under_behind held path token (m ∷ ms) = ap (λ vs. values_for (text_with_tokens (text_with_token path token) m) held ++ vs) (values_under_behind held path token ms)
+values_under_behind held path token (m ∷ ms) =
+    ap (λ vs. values_for (text_with_tokens (text_with_token path token) m) held ++ vs)
+    (values_under_behind held path token ms)
 
 -- the values of one token more: `>`, then the token, then `*`
 pub gathered_step : {V : Type 0} (held : List (Held V)) (path token : List ℕ) (tokens : List (List ℕ))
-    → values_under held path (matchers (token ∷ tokens)) ≡ values_for (text_with_token path (codes ">")) held ++ (values_under held (text_with_token path token) (matchers tokens) ++ values_under held (text_with_token path (codes "*")) (matchers tokens))
+    → values_under held path (matchers (token ∷ tokens))
+    ≡ values_for (text_with_token path (codes ">")) held
+    ++ (values_under held (text_with_token path token) (matchers tokens)
+    ++ values_under held (text_with_token path (codes "*")) (matchers tokens))
 gathered_step held path token tokens =
     ap (λ vs. values_for (text_with_token path (codes ">")) held ++ vs)
     (values_under_append held path (map (λ m. token ∷ m) (matchers tokens)) (map (λ m. codes "*" ∷ m) (matchers tokens))
-    ∙ ap (λ vs. vs ++ values_under held path (map (λ m. codes "*" ∷ m) (matchers tokens))) (values_under_behind held path token (matchers tokens))
-    ∙ ap (λ vs. values_under held (text_with_token path token) (matchers tokens) ++ vs) (values_under_behind held path (codes "*") (matchers tokens)))
+    ∙ ap (λ vs. vs ++ values_under held path (map (λ m. codes "*" ∷ m) (matchers tokens)))
+    (values_under_behind held path token (matchers tokens))
+    ∙ ap (λ vs. values_under held (text_with_token path token) (matchers tokens) ++ vs)
+    (values_under_behind held path (codes "*") (matchers tokens)))
 
 -- ---- a path that nothing begins with
 
@@ -59,30 +71,49 @@ unfolding tail
 extended_is b path [] = ap (λ l. b ∷ l) (sym (append-nil path))
 extended_is b path (t ∷ ts) = extended_is b (path ++ 46 ∷ t) ts ∙ ap (λ l. b ∷ l) (append_assoc path (46 ∷ t) (tail ts))
 
-extended_begins : (b : ℕ) (path : List ℕ) (ts : List (List ℕ)) → is_beginning (b ∷ path) (text_with_tokens (b ∷ path) ts) ≡ true
+extended_begins : (b : ℕ) (path : List ℕ) (ts : List (List ℕ))
+    → is_beginning (b ∷ path) (text_with_tokens (b ∷ path) ts) ≡ true
 unfolding tail
 extended_begins b path [] = begins_itself (b ∷ path)
-extended_begins b path (t ∷ ts) = ap (is_beginning (b ∷ path)) (extended_is b path (t ∷ ts)) ∙ begins_more (b ∷ path) (t ++ tail ts)
+extended_begins b path (t ∷ ts) =
+    ap (is_beginning (b ∷ path)) (extended_is b path (t ∷ ts)) ∙ begins_more (b ∷ path) (t ++ tail ts)
 
 -- nothing is held under a text, where nothing is under one that begins it
-none_under : {V : Type 0} (p q : List ℕ) (held : List (Held V)) → is_beginning p q ≡ true → count_below p held ≡ 0 → values_for q held ≡ []
+none_under : {V : Type 0} (p q : List ℕ) (held : List (Held V))
+    → is_beginning p q ≡ true
+    → count_below p held ≡ 0
+    → values_for q held ≡ []
 none_under p q [] begins none = refl
 none_under p q (h ∷ held) begins none =
     elim (cases_Bool (bytes_eq q h.0)) [
       | inl y ↦
-          let one : one_if (is_beginning p h.0) ≡ 1 = ap (λ t. one_if (is_beginning p t)) (sym ((bytes_decides q h.0).0 y)) ∙ ap one_if begins in
+          let one : one_if (is_beginning p h.0) ≡ 1 =
+          ap (λ t. one_if (is_beginning p t)) (sym ((bytes_decides q h.0).0 y)) ∙ ap one_if begins in
           absurd (omega arith)
-      | inr n ↦ cond-false (bytes_eq q h.0) (h.1 ∷ values_for q held) (values_for q held) n ∙ none_under p q held begins (omega arith)
+      | inr n ↦
+          cond-false (bytes_eq q h.0) (h.1 ∷ values_for q held) (values_for q held) n
+          ∙ none_under p q held begins (omega arith)
     ]
 
-no_values_under : {V : Type 0} (b : ℕ) (path : List ℕ) (held : List (Held V)) (ms : List (List (List ℕ))) → count_below (b ∷ path) held ≡ 0 → values_under held (b ∷ path) ms ≡ []
+no_values_under : {V : Type 0} (b : ℕ) (path : List ℕ) (held : List (Held V)) (ms : List (List (List ℕ)))
+    → count_below (b ∷ path) held ≡ 0
+    → values_under held (b ∷ path) ms ≡ []
 no_values_under b path held [] none = refl
-no_values_under b path held (m ∷ ms) none = ap (λ vs. vs ++ values_under held (b ∷ path) ms) (none_under (b ∷ path) (text_with_tokens (b ∷ path) m) held (extended_begins b path m) none) ∙ no_values_under b path held ms none
+no_values_under b path held (m ∷ ms) none =
+    ap (λ vs. vs ++ values_under held (b ∷ path) ms)
+    (none_under (b ∷ path) (text_with_tokens (b ∷ path) m) held (extended_begins b path m) none)
+    ∙ no_values_under b path held ms none
 
 -- where there is no node
-pub values_under_none : {V : Type 0} (held : List (Held V)) (nodes : Nodes V) (path : List ℕ) (ms : List (List (List ℕ))) → Holds held nodes → is_empty path ≡ false → below_at nodes path ≡ 0 → values_under held path ms ≡ []
+pub values_under_none : {V : Type 0} (held : List (Held V)) (nodes : Nodes V) (path : List ℕ)
+    (ms : List (List (List ℕ)))
+    → Holds held nodes
+    → is_empty path ≡ false
+    → below_at nodes path ≡ 0
+    → values_under held path ms ≡ []
 values_under_none held nodes [] ms is empty none = cc
-values_under_none held nodes (b ∷ path) ms is empty none = no_values_under b path held ms (sym (is.counts (b ∷ path)) ∙ none)
+values_under_none held nodes (b ∷ path) ms is empty none =
+    no_values_under b path held ms (sym (is.counts (b ∷ path)) ∙ none)
 
 -- ---- the path of one token more, cut off again
 
@@ -93,12 +124,19 @@ dotted_back (b ∷ path) token = ap (λ l. b ∷ l) (front path (46 ∷ token)) 
   front [] ys = refl
   front (x ∷ xs) ys = ap (λ l. x ∷ l) (front xs ys)
 
-pub cut_back : (n : ℕ) (path more token : List ℕ) → n ≡ length path → more ≡ text_with_token path token → take n more ≡ path
+pub cut_back : (n : ℕ) (path more token : List ℕ)
+    → n ≡ length path
+    → more ≡ text_with_token path token
+    → take n more ≡ path
 cut_back n path more token is at = ap (λ k. take k more) is ∙ ap (take (length path)) at ∙ dotted_back path token
 
 -- ---- a token that no node is marked for
 
-not_counted : {V : Type 0} (held : List (Held V)) (nodes : Nodes V) (path : List ℕ) (k : List ℕ) → Holds held nodes → is_empty path ≡ false → has_mark k nodes path ≡ false → count_below (text_with_token path k) held ≡ 0
+not_counted : {V : Type 0} (held : List (Held V)) (nodes : Nodes V) (path : List ℕ) (k : List ℕ)
+    → Holds held nodes
+    → is_empty path ≡ false
+    → has_mark k nodes path ≡ false
+    → count_below (text_with_token path k) held ≡ 0
 not_counted held nodes [] k is some none = cc
 not_counted held nodes (b ∷ path) k is some none =
     elim (cases_Bool (nat_lt 0 (count_below (beginning_with_rest k (b ∷ path)) held))) [
@@ -110,24 +148,33 @@ not_counted held nodes (b ∷ path) k is some none =
     no e = cc
 
 -- nothing is held behind a token that is not marked
-pub token_none : {V : Type 0} (held : List (Held V)) (nodes : Nodes V) (path token : List ℕ) (ms : List (List (List ℕ))) → Holds held nodes → (is_empty path ≡ false) × (has_mark token nodes path ≡ false) → values_under held (text_with_token path token) ms ≡ []
+pub token_none : {V : Type 0} (held : List (Held V)) (nodes : Nodes V) (path token : List ℕ) (ms : List (List (List ℕ)))
+    → Holds held nodes
+    → (is_empty path ≡ false) × (has_mark token nodes path ≡ false)
+    → values_under held (text_with_token path token) ms ≡ []
 token_none held nodes [] token ms is none = nothing none.0 where
   nothing : {A : Type 0} → true ≡ false → A
   nothing e = cc
-token_none held nodes (b ∷ path) token ms is none = no_values_under b (path ++ 46 ∷ token) held ms (not_counted held nodes (b ∷ path) token is none.0 none.1)
+token_none held nodes (b ∷ path) token ms is none =
+    no_values_under b (path ++ 46 ∷ token) held ms (not_counted held nodes (b ∷ path) token is none.0 none.1)
 
 -- the whole of a step
 module _ {V : Type 0} (held : List (Held V)) (path token : List ℕ) (tokens : List (List ℕ)) (f0 f1 f2 f3 : List V) where
   joined : (f a b d : List V) → ((f ++ a) ++ b) ++ d ≡ f ++ (a ++ (b ++ d))
   joined f a b d = append_assoc (f ++ a) b d ∙ append_assoc f a (b ++ d)
 
-  pub walked : f1 ≡ f0 ++ values_under held (text_with_token path (codes ">")) (matchers []) → f2 ≡ f1 ++ values_under held (text_with_token path token) (matchers tokens) → f3 ≡ f2 ++ values_under held (text_with_token path (codes "*")) (matchers tokens)
+  pub walked : f1 ≡ f0 ++ values_under held (text_with_token path (codes ">")) (matchers [])
+      → f2 ≡ f1 ++ values_under held (text_with_token path token) (matchers tokens)
+      → f3 ≡ f2 ++ values_under held (text_with_token path (codes "*")) (matchers tokens)
       → f3 ≡ f0 ++ values_under held path (matchers (token ∷ tokens))
   walked one two three =
       let a = values_for (text_with_token path (codes ">")) held in
       let b = values_under held (text_with_token path token) (matchers tokens) in
       let d = values_under held (text_with_token path (codes "*")) (matchers tokens) in
-      three ∙ ap (λ f. f ++ d) (two ∙ ap (λ f. f ++ b) (one ∙ ap (λ vs. f0 ++ vs) (append-nil a))) ∙ joined f0 a b d ∙ sym (ap (λ vs. f0 ++ vs) (gathered_step held path token tokens))
+      three
+      ∙ ap (λ f. f ++ d) (two ∙ ap (λ f. f ++ b) (one ∙ ap (λ vs. f0 ++ vs) (append-nil a)))
+      ∙ joined f0 a b d
+      ∙ sym (ap (λ vs. f0 ++ vs) (gathered_step held path token tokens))
 
 pub none_counted : {V : Type 0} (o : Option (Node V)) → is_some o ≡ false → count_of o ≡ 0
 none_counted None no_one = refl

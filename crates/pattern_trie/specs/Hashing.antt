@@ -19,7 +19,8 @@ word_with word byte = (word * 256 % 2 ^ 64 + byte) % 2 ^ 64
 -- one byte more: every eighth feeds a word
 abbrev pub with_byte : TextHasher → ℕ → TextHasher
 with_byte h byte =
-    if nat_le 7 h.filled then record { whole = with_word h.whole (word_with h.word byte); word = 0; filled = 0 }
+    if nat_le 7 h.filled
+    then record { whole = with_word h.whole (word_with h.word byte); word = 0; filled = 0 }
     else record { whole = h.whole; word = word_with h.word byte; filled = h.filled + 1 }
 
 -- single bytes are gathered, and longer runs are fed at once

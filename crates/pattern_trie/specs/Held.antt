@@ -25,10 +25,14 @@ is_held eq text value h = bytes_eq text h.0 && eq value h.1
 -- the list without the first that is this value under this pattern
 abbrev pub without_held : {V : Type 0} → (V → V → Bool) → List ℕ → V → List (Held V) → List (Held V)
 without_held eq text value [] = []
-without_held eq text value (h ∷ held) = if is_held eq text value h then held else h ∷ without_held eq text value held
+without_held eq text value (h ∷ held) =
+    if is_held eq text value h then held else h ∷ without_held eq text value held
 
--- the nodes are those of what is held; where a text goes on behind a beginning, its class is marked there
+-- the nodes are those of what is held; where a text goes on behind a beginning, its class is marked
+-- there
 pub record Holds {V : Type 0} (held : List (Held V)) (nodes : Nodes V) : Type 0 where
   pub counts : (q : List ℕ) → below_at nodes q ≡ count_below q held
   pub values : (q : List ℕ) → values_at nodes q ≡ values_for q held
-  pub marks : (more q : List ℕ) → 0 < count_below (beginning_with_rest more q) held → has_mark more nodes q ≡ true
+  pub marks : (more q : List ℕ)
+      → 0 < count_below (beginning_with_rest more q) held
+      → has_mark more nodes q ≡ true

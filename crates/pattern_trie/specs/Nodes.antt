@@ -46,7 +46,10 @@ has_mark more nodes text = mark_of more (node_at nodes text)
 
 -- where a text is not in the marks, there are no nodes for it behind the path
 abbrev pub AreKnown : {V : Type 0} → Marks → Nodes V → List ℕ → Type 0
-AreKnown marks nodes path = (more : List ℕ) → is_in more marks ≡ false → (is_empty path ≡ false) × (has_mark more nodes path ≡ false)
+AreKnown marks nodes path =
+    (more : List ℕ)
+    → is_in more marks ≡ false
+    → (is_empty path ≡ false) × (has_mark more nodes path ≡ false)
 
 abbrev pub one_if : Bool → ℕ
 one_if b = if b then 1 else 0
@@ -57,7 +60,8 @@ KeepsMarks old new = (more q : List ℕ) → has_mark more old q ≡ true → ha
 
 -- they are where something is still held below
 abbrev pub KeepsMarksBelow : {V : Type 0} → Nodes V → Nodes V → Type 0
-KeepsMarksBelow old new = (more q : List ℕ) → 0 < below_at new q → has_mark more old q ≡ true → has_mark more new q ≡ true
+KeepsMarksBelow old new =
+    (more q : List ℕ) → 0 < below_at new q → has_mark more old q ≡ true → has_mark more new q ≡ true
 
 -- new has the counts and the values of old
 pub record IsSame {V : Type 0} (old new : Nodes V) : Type 0 where
@@ -66,7 +70,8 @@ pub record IsSame {V : Type 0} (old new : Nodes V) : Type 0 where
   pub marks : KeepsMarksBelow old new
 
 -- one more is counted at the text, with these marks behind it
-pub record Enters {V : Type 0} (text : List ℕ) (behind : List ℕ → Bool) (old new : Nodes V) : Type 0 where
+pub record Enters {V : Type 0} (text : List ℕ) (behind : List ℕ → Bool) (old new : Nodes V) :
+    Type 0 where
   pub counts : (q : List ℕ) → below_at new q ≡ below_at old q + one_if (bytes_eq text q)
   pub values : (q : List ℕ) → values_at new q ≡ values_at old q
   pub marks : KeepsMarks old new
@@ -81,7 +86,8 @@ pub record Leaves {V : Type 0} (text : List ℕ) (old new : Nodes V) : Type 0 wh
 -- the values at the text become these
 pub record Values {V : Type 0} (text : List ℕ) (values : List V) (old new : Nodes V) : Type 0 where
   pub counts : (q : List ℕ) → below_at new q ≡ below_at old q
-  pub values_are : (q : List ℕ) → values_at new q ≡ (if bytes_eq text q then values else values_at old q)
+  pub values_are : (q : List ℕ)
+      → values_at new q ≡ (if bytes_eq text q then values else values_at old q)
   pub marks : KeepsMarks old new
 
 -- the list without the first such value, values being compared by eq
@@ -90,7 +96,8 @@ without_value eq value [] = []
 without_value eq value (x ∷ xs) = if eq value x then xs else x ∷ without_value eq value xs
 
 -- one more is counted where the test says so, with these marks behind
-pub record EntersEach {V : Type 0} (test : List ℕ → Bool) (behind : List ℕ → List ℕ → Bool) (old new : Nodes V) : Type 0 where
+pub record EntersEach {V : Type 0} (test : List ℕ → Bool) (behind : List ℕ → List ℕ → Bool)
+    (old new : Nodes V) : Type 0 where
   pub counts : (q : List ℕ) → below_at new q ≡ below_at old q + one_if (test q)
   pub values : (q : List ℕ) → values_at new q ≡ values_at old q
   pub marks : KeepsMarks old new
@@ -105,4 +112,7 @@ pub record LeavesEach {V : Type 0} (test : List ℕ → Bool) (old new : Nodes V
 -- where the test says so, one more is counted than the values there are for
 pub record CanLeaveEach {V : Type 0} (test : List ℕ → Bool) (nodes : Nodes V) : Type 0 where
   pub held : (q : List ℕ) → test q ≡ true → 0 < below_at nodes q
-  pub last_is_empty : (q : List ℕ) → test q ≡ true → below_at nodes q ≡ 1 → length (values_at nodes q) ≡ 0
+  pub last_is_empty : (q : List ℕ)
+      → test q ≡ true
+      → below_at nodes q ≡ 1
+      → length (values_at nodes q) ≡ 0

@@ -23,7 +23,8 @@ fn leave_before<V: Drop>(nodes: &mut Nodes<V>, text: &[u8], end: usize)
 
 /// Counts one more at each beginning before a dot.
 fn enter_before<V: Drop>(alloc: Global, nodes: &mut Nodes<V>, text: &[u8]) -> Result<(), AllocError>
-    ensures ok { OnOk result (EntersEach (λ q. is_before_dot_of (length text.now) q text.now) (λ more q. goes_on more (length text.now) q text.now) nodes.old nodes.new) }
+    ensures ok { OnOk result (EntersEach (λ q. is_before_dot_of (length text.now) q text.now)
+        (λ more q. goes_on more (length text.now) q text.now) nodes.old nodes.new) }
     ensures err { OnErr result (IsSame nodes.old nodes.new) }
 {
     for at in 0..text.len() {
@@ -44,7 +45,8 @@ pub(crate) fn enter_all<V: Drop>(
     nodes: &mut Nodes<V>,
     text: &[u8],
 ) -> Result<(), AllocError>
-    ensures ok { OnOk result (EntersEach (λ q. is_beginning q text.now) (λ more q. is_beginning (beginning_with_rest more q) text.now) nodes.old nodes.new) }
+    ensures ok { OnOk result (EntersEach (λ q. is_beginning q text.now)
+        (λ more q. is_beginning (beginning_with_rest more q) text.now) nodes.old nodes.new) }
     ensures err { OnErr result (IsSame nodes.old nodes.new) }
 {
     enter_before(alloc, nodes, text)?;

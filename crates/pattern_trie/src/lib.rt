@@ -55,8 +55,12 @@ impl<V: Copy + PartialEq> PatternTrie<V> {
 
     /// Holds one more value. Want of memory leaves the trie as it was.
     pub fn insert(&mut self, pattern: &Pattern, value: V) -> Result<(), AllocError>
-        ensures ok { (held : List (Held V)) → Holds held self.old.nodes → OnOk result (Holds (held ++ (pattern.now, value) ∷ []) self.new.nodes) }
-        ensures err { (held : List (Held V)) → Holds held self.old.nodes → OnErr result (Holds held self.new.nodes) }
+        ensures ok { (held : List (Held V))
+            → Holds held self.old.nodes
+            → OnOk result (Holds (held ++ (pattern.now, value) ∷ []) self.new.nodes) }
+        ensures err { (held : List (Held V))
+            → Holds held self.old.nodes
+            → OnErr result (Holds held self.new.nodes) }
     {
         let text = pattern.bytes();
         enter_all(self.alloc, &mut self.nodes, text)?;
@@ -69,7 +73,9 @@ impl<V: Copy + PartialEq> PatternTrie<V> {
 
     /// Holds the first value under the pattern that is equal to this one no longer. Takes no memory.
     pub fn remove(&mut self, pattern: &Pattern, value: V)
-        ensures { (held : List (Held V)) → Holds held self.old.nodes → Holds (without_held V.eq pattern.now value held) self.new.nodes }
+        ensures { (held : List (Held V))
+            → Holds held self.old.nodes
+            → Holds (without_held V.eq pattern.now value held) self.new.nodes }
     {
         let text = pattern.bytes();
         if take_value(&mut self.nodes, text, &value) {
@@ -80,7 +86,10 @@ impl<V: Copy + PartialEq> PatternTrie<V> {
     /// Adds the values held under the patterns that match the subject, once for each time that they
     /// are held. In which order they come is not said.
     pub fn matching(&self, subject: &Subject, found: &mut Vec<V>) -> Result<(), AllocError>
-        ensures { (held : List (Held V)) → Holds held self.now.nodes → OnOk result (IsPermutation (found.old.items ++ matching_values subject.now held) found.new.items) }
+        ensures { (held : List (Held V))
+            → Holds held self.now.nodes
+            → OnOk result
+            (IsPermutation (found.old.items ++ matching_values subject.now held) found.new.items) }
     {
         let text = subject.bytes();
         let mut path = Vec::with_capacity(self.alloc, text.len())?;

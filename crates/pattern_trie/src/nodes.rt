@@ -52,7 +52,8 @@ fn below<V: Drop>(nodes: &Nodes<V>, text: &[u8]) -> usize
 /// Counts one less below. Takes no memory.
 pub(crate) fn leave<V: Drop>(nodes: &mut Nodes<V>, text: &[u8])
     requires held { 0 < below_at nodes.old text.now }
-    requires last_is_empty { below_at nodes.old text.now ≡ 1 → length (values_at nodes.old text.now) ≡ 0 }
+    requires last_is_empty { below_at nodes.old text.now ≡ 1
+        → length (values_at nodes.old text.now) ≡ 0 }
     ensures { Leaves text.now nodes.old nodes.new }
 {
     if below(nodes, text) == 1 {
@@ -71,7 +72,8 @@ pub(crate) fn push_value<V: Drop>(
     value: V,
 ) -> Result<(), AllocError>
     requires held { 0 < below_at nodes.old text.now }
-    ensures ok { OnOk result (Values text.now (values_at nodes.old text.now ++ value ∷ []) nodes.old nodes.new) }
+    ensures ok { OnOk result
+        (Values text.now (values_at nodes.old text.now ++ value ∷ []) nodes.old nodes.new) }
     ensures err { OnErr result (IsSame nodes.old nodes.new) }
 {
     if let Some(node) = nodes.get_mut(text) {
@@ -106,7 +108,8 @@ fn remove_first<V: PartialEq + Drop>(values: &mut Vec<V>, value: &V) -> bool
 /// Takes out the first such value at the text, where there is one. Takes no memory.
 pub(crate) fn take_value<V: PartialEq + Drop>(nodes: &mut Nodes<V>, text: &[u8], value: &V) -> bool
     ensures some { result ≡ list_any (V.eq value.now) (values_at nodes.old text.now) }
-    ensures left { Values text.now (without_value V.eq value.now (values_at nodes.old text.now)) nodes.old nodes.new }
+    ensures left { Values text.now (without_value V.eq value.now (values_at nodes.old text.now))
+        nodes.old nodes.new }
 {
     match nodes.get_mut(text) {
         Some(node) => remove_first(&mut node.values, value),

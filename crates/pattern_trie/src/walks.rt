@@ -59,9 +59,16 @@ fn gather_token<V: Copy>(
     behind: Option<&[u8]>,
     found: &mut Vec<V>,
 ) -> Result<(), AllocError>
-    requires known { is_marked ≡ false → (is_empty path.old.items ≡ false) × (has_mark token.now nodes.now path.old.items ≡ false) }
+    requires known { is_marked ≡ false
+        → (is_empty path.old.items ≡ false)
+        × (has_mark token.now nodes.now path.old.items ≡ false) }
     ensures path { OnOk result (path.new.items ≡ path.old.items) }
-    ensures found { (held : List (Held V)) → Holds held nodes.now → OnOk result (found.new.items ≡ found.old.items ++ values_under held (text_with_token path.old.items token.now) (matchers (tokens_behind (option_copied behind.entry)))) }
+    ensures found { (held : List (Held V))
+        → Holds held nodes.now
+        → OnOk result (found.new.items
+        ≡ found.old.items
+        ++ values_under held (text_with_token path.old.items token.now)
+        (matchers (tokens_behind (option_copied behind.entry)))) }
 {
     if !is_marked {
         return Ok(());
@@ -83,7 +90,12 @@ pub(crate) fn gather<V: Copy>(
     found: &mut Vec<V>,
 ) -> Result<(), AllocError>
     ensures path { OnOk result (path.new.items ≡ path.old.items) }
-    ensures found { (held : List (Held V)) → Holds held nodes.now → OnOk result (found.new.items ≡ found.old.items ++ values_under held path.old.items (matchers (tokens_behind (option_copied behind.entry)))) }
+    ensures found { (held : List (Held V))
+        → Holds held nodes.now
+        → OnOk result (found.new.items
+        ≡ found.old.items
+        ++ values_under held path.old.items
+        (matchers (tokens_behind (option_copied behind.entry)))) }
 {
     let Some(text) = behind else {
         return add_values(nodes, path, found);

@@ -1,4 +1,5 @@
--- The sessions of a server as one value: what a call is refused for, what it does, and what always holds.
+-- The sessions of a server as one value: what a call is refused for, what it does, and what always
+-- holds.
 use Rattle.std.specs.Prelude.{◌≡◌, ℕ, ◌<◌, ◌≤◌, Bool, true, ◌&&◌, nat_le, List, length, All, Option, Some, None, is_some, if◌then◌else◌}
 use Rattle.std.specs.List.{AllPairs}
 use Rattle.subj.specs.declared.limits.TheConstants.{MAX_COUNTER, MAX_SESSIONS}
@@ -52,7 +53,8 @@ pub record IsInfoOffer (s : Served) (number : ℕ) (info : Info) (offer : Offer)
   pub serial : is_serial offer.serial ≡ true
   pub dial : offer.serial ≡ serial_of (session_at number s.state.standing)
   pub name : offer.peer ≡ place s.server info.server_name
-  pub after : after_completion number offer s.state ≡ after_info s.server s.state info (session_at number s.state.standing)
+  pub after : after_completion number offer s.state
+      ≡ after_info s.server s.state info (session_at number s.state.standing)
 
 -- what a CONNECT offers: by a peer
 pub record IsConnectOffer (s : Served) (connect : Connect) (offer : Offer) : Type 0 where
@@ -72,13 +74,15 @@ is_of_a_peer server None = true
 is_of_a_peer server (Some offer) = is_peer server offer.peer
 
 -- a session that stands, of so many numbers and dials
-pub record IsSession (server : ServerIdentity) (numbers dials : ℕ) (session : Session) : Type 0 where
+pub record IsSession (server : ServerIdentity) (numbers dials : ℕ) (session : Session) :
+    Type 0 where
   pub first : 1 ≤ session.number
   pub last : session.number ≤ numbers
   pub dial : is_dial dials session.serial session.dialed ≡ true
   pub peer : is_of_a_peer server session.kept ≡ true
 
--- numbers and dials are counted within their limit; no more sessions stand than may, each once and in order of its number
+-- numbers and dials are counted within their limit; no more sessions stand than may, each once and
+-- in order of its number
 pub record AreSessions (server : ServerIdentity) (s : State) : Type 0 where
   pub numbers : s.numbers ≤ MAX_COUNTER
   pub dials : s.dials ≤ s.numbers

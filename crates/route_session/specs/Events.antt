@@ -1,4 +1,5 @@
--- What the sessions are asked, and what they answer. Servers are named by their places, but for the frames.
+-- What the sessions are asked, and what they answer. Servers are named by their places, but for the
+-- frames.
 use Rattle.std.specs.Prelude.{ℕ, Option}
 use Rattle.route_values.specs.Records.{Info, Connect}
 

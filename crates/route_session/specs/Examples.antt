@@ -13,7 +13,8 @@ use Rattle.route_session.specs.Steps.{session_refusal, session_after, session_an
 
 -- the event is done with this answer
 abbrev pub Gives : ServerIdentity → State → Event → Answer → Type 0
-Gives server s event answer = (session_refusal server s event ≡ None) × (session_answer server s event ≡ answer)
+Gives server s event answer =
+    (session_refusal server s event ≡ None) × (session_answer server s event ≡ answer)
 
 abbrev pub Refuses : ServerIdentity → State → Event → SessionFault → Type 0
 Refuses server s event why = session_refusal server s event ≡ Some why
@@ -42,10 +43,22 @@ info name inc = record { server_name = name; inc = inc }
 
 -- the CONNECT of n1 to n2, and that of n2 in this incarnation to n1
 abbrev pub from_n1 : ℕ → Connect
-from_n1 serial = record { server_name = codes "n1"; inc = 5; to = codes "n2"; to_inc = 5; serial = serial }
+from_n1 serial = record {
+  server_name = codes "n1";
+  inc = 5;
+  to = codes "n2";
+  to_inc = 5;
+  serial = serial;
+}
 
 abbrev pub from_n2 : ℕ → ℕ → Connect
-from_n2 inc serial = record { server_name = codes "n2"; inc = inc; to = codes "n1"; to_inc = 5; serial = serial }
+from_n2 inc serial = record {
+  server_name = codes "n2";
+  inc = inc;
+  to = codes "n1";
+  to_inc = 5;
+  serial = serial;
+}
 
 -- ---- both dial at the same time: each dials its session 1 and accepts its session 2
 
@@ -62,17 +75,22 @@ n1_again = session_after n1 n1_kept (Dial 1)
 pub record DialsCross : Type 0 where
   pub dialed : Gives n1 no_sessions (Dial 1) (Dialed 1)
   pub accepted : Gives n1 (after n1 (Dial 1 ∷ [])) Accept (Accepted 2 (info (codes "n1") 5))
-  pub n1_info : Gives n1 (after n1 (Dial 1 ∷ Accept ∷ [])) (OnInfo 1 (info (codes "n2") 5) 0) (KeptAfterInfo None (from_n1 1))
-  pub n2_info : Gives n2 (after n2 (Dial 0 ∷ Accept ∷ [])) (OnInfo 1 (info (codes "n1") 5) 0) (KeptAfterInfo None (from_n2 5 1))
+  pub n1_info : Gives n1 (after n1 (Dial 1 ∷ Accept ∷ [])) (OnInfo 1 (info (codes "n2") 5) 0)
+      (KeptAfterInfo None (from_n1 1))
+  pub n2_info : Gives n2 (after n2 (Dial 0 ∷ Accept ∷ [])) (OnInfo 1 (info (codes "n1") 5) 0)
+      (KeptAfterInfo None (from_n2 5 1))
   -- n2 keeps the session that n1 dialed, and n1 its own
   pub n2_connect : Gives n2 n2_kept (OnConnect 2 (from_n1 1) 5) (Kept (Some 1))
   pub n1_connect : Refuses n1 n1_kept (OnConnect 2 (from_n2 5 1) 5) (Duplicate 1)
-  pub n2_keeps : number_kept 0 (session_after n2 n2_kept (OnConnect 2 (from_n1 1) 5)).standing ≡ Some 2
+  pub n2_keeps :
+      number_kept 0 (session_after n2 n2_kept (OnConnect 2 (from_n1 1) 5)).standing ≡ Some 2
   pub n1_keeps : number_kept 1 n1_kept.standing ≡ Some 1
   -- of two that n1 dialed the later one stays
   pub again : Gives n1 n1_kept (Dial 1) (Dialed 3)
-  pub again_info : Gives n1 n1_again (OnInfo 3 (info (codes "n2") 5) 5) (KeptAfterInfo (Some 1) (from_n1 2))
-  pub again_kept : number_kept 1 (session_after n1 n1_again (OnInfo 3 (info (codes "n2") 5) 5)).standing ≡ Some 3
+  pub again_info :
+      Gives n1 n1_again (OnInfo 3 (info (codes "n2") 5) 5) (KeptAfterInfo (Some 1) (from_n1 2))
+  pub again_kept :
+      number_kept 1 (session_after n1 n1_again (OnInfo 3 (info (codes "n2") 5) 5)).standing ≡ Some 3
 
 -- ---- which one is the better, and that the worse one is refused and changes nothing
 
@@ -96,7 +114,11 @@ pub record KeepsTheBetter : Type 0 where
 
 -- as many sessions stand as may, and no number is left
 abbrev pub crowded : State
-crowded = record { numbers = MAX_COUNTER; dials = 0; standing = replicate MAX_SESSIONS (record { number = 1; dialed = None; serial = 0; kept = None }) }
+crowded = record {
+  numbers = MAX_COUNTER;
+  dials = 0;
+  standing = replicate MAX_SESSIONS (record { number = 1; dialed = None; serial = 0; kept = None });
+}
 
 abbrev pub spent : State
 spent = record no_sessions { numbers = MAX_COUNTER }
@@ -116,5 +138,7 @@ pub record RefusesInOrder : Type 0 where
   pub wrong_name : Refuses n1 n1_again (OnInfo 3 (info (codes "n1") 4) 5) WrongName
   pub old : Refuses n1 n1_again (OnInfo 3 (info (codes "n2") 4) 5) OldIncarnation
   -- a CONNECT to another incarnation of this server
-  pub old_own : Refuses n2 n2_third (OnConnect 3 (record (from_n1 1) { to_inc = 4 }) 5) OldIncarnation
-  pub to_another : Refuses n2 n2_third (OnConnect 3 (record (from_n1 1) { to = codes "n1"; inc = 4 }) 5) WrongName
+  pub old_own :
+      Refuses n2 n2_third (OnConnect 3 (record (from_n1 1) { to_inc = 4 }) 5) OldIncarnation
+  pub to_another : Refuses n2 n2_third
+      (OnConnect 3 (record (from_n1 1) { to = codes "n1"; inc = 4 }) 5) WrongName

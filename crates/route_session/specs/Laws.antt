@@ -12,20 +12,34 @@ use Rattle.route_session.specs.Events.{Event, OnInfo, OnConnect}
 
 -- ---- one end
 
--- of the session kept for the peer, if there is one, and the new one the better stays: the new one where it is not refused, and the kept one where it is a duplicate
-pub record BestStays (server : ServerIdentity) (s : State) (e : Event) (offer : Offer) : Type 0 where
-  pub taken : session_refusal server s e ≡ None → offer_kept offer.peer (session_after server s e).standing ≡ better_of_kept offer (offer_kept offer.peer s.standing)
-  pub refused : (kept : ℕ) → session_refusal server s e ≡ Some (Duplicate kept) → offer_kept offer.peer s.standing ≡ better_of_kept offer (offer_kept offer.peer s.standing)
+-- of the session kept for the peer, if there is one, and the new one the better stays: the new one
+-- where it is not refused, and the kept one where it is a duplicate
+pub record BestStays (server : ServerIdentity) (s : State) (e : Event) (offer : Offer) :
+    Type 0 where
+  pub taken : session_refusal server s e ≡ None
+      → offer_kept offer.peer (session_after server s e).standing
+      ≡ better_of_kept offer (offer_kept offer.peer s.standing)
+  pub refused : (kept : ℕ)
+      → session_refusal server s e ≡ Some (Duplicate kept)
+      → offer_kept offer.peer s.standing ≡ better_of_kept offer (offer_kept offer.peer s.standing)
 
 abbrev pub InfoKeepsBest : Type 0
-InfoKeepsBest = (server : ServerIdentity) (s : State) (number : ℕ) (info : Info) (least : ℕ) (session : Session) → session_at number s.standing ≡ Some session → BestStays server s (OnInfo number info least) (info_offer server session info)
+InfoKeepsBest =
+    (server : ServerIdentity) (s : State) (number : ℕ) (info : Info) (least : ℕ) (session : Session)
+    → session_at number s.standing ≡ Some session
+    → BestStays server s (OnInfo number info least) (info_offer server session info)
 
 abbrev pub ConnectKeepsBest : Type 0
-ConnectKeepsBest = (server : ServerIdentity) (s : State) (number : ℕ) (connect : Connect) (least : ℕ) (session : Session) → session_at number s.standing ≡ Some session → BestStays server s (OnConnect number connect least) (connect_offer server connect)
+ConnectKeepsBest =
+    (server : ServerIdentity) (s : State) (number : ℕ) (connect : Connect) (least : ℕ)
+    (session : Session)
+    → session_at number s.standing ≡ Some session
+    → BestStays server s (OnConnect number connect least) (connect_offer server connect)
 
 -- ---- the best of those offered
 
--- it is one of them, better than each before it, and none behind it is better: the best, and of equal ones the first
+-- it is one of them, better than each before it, and none behind it is better: the best, and of
+-- equal ones the first
 pub record IsFirstBest (best : Offer) (offers : List Offer) : Type 0 where
   pub before : List Offer
   pub behind : List Offer
@@ -35,7 +49,9 @@ pub record IsFirstBest (best : Offer) (offers : List Offer) : Type 0 where
 
 -- where some are offered, this one is kept
 abbrev pub BestIsKept : Type 0
-BestIsKept = (offers : List Offer) → MatchOption (best_after None offers) (offers ≡ []) (λ best. IsFirstBest best offers)
+BestIsKept =
+    (offers : List Offer)
+    → MatchOption (best_after None offers) (offers ≡ []) (λ best. IsFirstBest best offers)
 
 -- ---- two ends
 
@@ -51,10 +67,15 @@ abbrev pub dial_kept : Option Offer → Option Dial
 dial_kept None = None
 dial_kept (Some offer) = Some (offer.dialer, offer.serial)
 
--- the dial that an end keeps of those offered to it one after the other, all of one incarnation of its peer
+-- the dial that an end keeps of those offered to it one after the other, all of one incarnation of
+-- its peer
 abbrev pub kept_after_dials : ℕ → ℕ → List Dial → Option Dial
 kept_after_dials peer inc dials = dial_kept (best_after None (map (offer_of peer inc) dials))
 
--- two ends to which the same dials were offered, in any orders and any number of times, keep the same one
+-- two ends to which the same dials were offered, in any orders and any number of times, keep the
+-- same one
 abbrev pub EndsAgree : Type 0
-EndsAgree = (here there here_inc there_inc : ℕ) (dials others : List Dial) → ((dial : Dial) → In dial dials ↔ In dial others) → kept_after_dials there there_inc dials ≡ kept_after_dials here here_inc others
+EndsAgree =
+    (here there here_inc there_inc : ℕ) (dials others : List Dial)
+    → ((dial : Dial) → In dial dials ↔ In dial others)
+    → kept_after_dials there there_inc dials ≡ kept_after_dials here here_inc others

@@ -1,17 +1,20 @@
--- The sessions of a server as its callers see them (profile; INFO and CONNECT: NATS documentation, "Cluster Protocol").
+-- The sessions of a server as its callers see them (profile; INFO and CONNECT: NATS documentation,
+-- "Cluster Protocol").
 use Rattle.std.specs.Prelude.{ℕ, Bool, false, ◌&&◌, nat_eq, List, [], find, Option, Some, None}
 use Rattle.std.specs.List.{list_any}
 use Rattle.std.specs.Option.{option_and_then, option_map}
 use Rattle.route_session.specs.Best.{Offer}
 
--- a session that stands: its number; of a dialed one the place of the server dialed, and the serial of the dial; and what was offered once it is completed, which is then the kept one of its peer
+-- a session that stands: its number; of a dialed one the place of the server dialed, and the serial
+-- of the dial; and what was offered once it is completed, which is then the kept one of its peer
 pub record Session : Type 0 where
   pub number : ℕ
   pub dialed : Option ℕ
   pub serial : ℕ
   pub kept : Option Offer
 
--- how many sessions there were, how many of them were dialed, and those that stand, in order of their numbers
+-- how many sessions there were, how many of them were dialed, and those that stand, in order of
+-- their numbers
 pub record State : Type 0 where
   pub numbers : ℕ
   pub dials : ℕ
@@ -39,7 +42,9 @@ number_kept q standing = option_map (λ session. session.number) (kept_for q sta
 
 -- the place of the peer whose kept session this is
 abbrev pub peer_of_session : ℕ → List Session → Option ℕ
-peer_of_session number standing = option_map (λ offer. offer.peer) (option_and_then (λ session. session.kept) (session_at number standing))
+peer_of_session number standing =
+    option_map (λ offer. offer.peer)
+    (option_and_then (λ session. session.kept) (session_at number standing))
 
 -- a session with this incarnation of the peer at this place is kept
 abbrev pub is_kept_at : ℕ → ℕ → Option Offer → Bool

@@ -26,9 +26,19 @@ impl Model for Offer {
 
     ghost Value = { Offer };
 
-    ghost view = { λ offer. record { peer = offer.peer; inc = offer.inc; dialer = offer.dialer; serial = offer.serial } };
+    ghost view = { λ offer. record {
+      peer = offer.peer;
+      inc = offer.inc;
+      dialer = offer.dialer;
+      serial = offer.serial;
+    } };
 
-    ghost inverse = { λ value. record { peer = value.peer; inc = value.inc; dialer = value.dialer; serial = value.serial } };
+    ghost inverse = { λ value. record {
+      peer = value.peer;
+      inc = value.inc;
+      dialer = value.dialer;
+      serial = value.serial;
+    } };
 }
 
 impl Offer {

@@ -31,9 +31,19 @@ impl Model for Session {
 
     ghost Value = { Session };
 
-    ghost view = { λ session. record { number = session.number; dialed = session.dialed; serial = session.serial; kept = session.kept } };
+    ghost view = { λ session. record {
+      number = session.number;
+      dialed = session.dialed;
+      serial = session.serial;
+      kept = session.kept;
+    } };
 
-    ghost inverse = { λ value. record { number = value.number; dialed = value.dialed; serial = value.serial; kept = value.kept } };
+    ghost inverse = { λ value. record {
+      number = value.number;
+      dialed = value.dialed;
+      serial = value.serial;
+      kept = value.kept;
+    } };
 }
 
 impl Session {
@@ -159,7 +169,8 @@ fn keep(standing: &mut [Session], number: u64, offer: Offer)
 
 /// What is offered is kept by the session of this number, and the kept session of its peer ends.
 pub fn complete(standing: &mut Vec<Session>, number: u64, offer: Offer)
-    ensures { standing.new.items ≡ map (kept_at number offer) (filter (is_not_of_peer offer.peer) standing.old.items) }
+    ensures { standing.new.items
+        ≡ map (kept_at number offer) (filter (is_not_of_peer offer.peer) standing.old.items) }
 {
     drop_kept(standing, offer.peer);
     keep(standing, number, offer);

@@ -20,7 +20,12 @@ use subj::{Failure, Incarnation, MAX_COUNTER, MAX_SESSIONS, NodeId, ServerIdenti
 
 /// What a `CONNECT` of this peer offers.
 fn offer_of_connect(connect: &RouteConnect, peer: usize) -> Offer
-    ensures { result ≡ record { peer = peer; inc = connect.now.inc; dialer = peer; serial = connect.now.serial } }
+    ensures { result ≡ record {
+      peer = peer;
+      inc = connect.now.inc;
+      dialer = peer;
+      serial = connect.now.serial;
+    } }
 {
     Offer {
         peer,
@@ -78,9 +83,14 @@ impl Model for Sessions {
 
     ghost Value = { Served };
 
-    ghost view = { λ s. record { server = s.server; state = record { numbers = s.numbers; dials = s.dials; standing = s.standing.items } } };
+    ghost view = { λ s. record {
+      server = s.server;
+      state = record { numbers = s.numbers; dials = s.dials; standing = s.standing.items };
+    } };
 
-    ghost invariant = { λ s. AreSessions s.server (record { numbers = s.numbers; dials = s.dials; standing = s.standing.items }) };
+    ghost invariant = { λ s.
+        AreSessions s.server
+        (record { numbers = s.numbers; dials = s.dials; standing = s.standing.items }) };
 }
 
 impl Sessions {
@@ -145,7 +155,9 @@ impl Sessions {
     /// Refused: 70 where the place is of no other server of the cluster; 74 where [`MAX_SESSIONS`] stand;
     /// 75 where the numbers have come to [`MAX_COUNTER`]. Any `Err` leaves all as it was.
     pub fn dial(&mut self, place: usize) -> Result<SessionId, Failure<SessionFault>>
-        ensures { IsAnswered (refusal self.old (Dial place)) (λ session. DoesStep self.old (Dial place) (Dialed session) self.new) (self.new ≡ self.old) result }
+        ensures { IsAnswered (refusal self.old (Dial place))
+            (λ session. DoesStep self.old (Dial place) (Dialed session) self.new)
+            (self.new ≡ self.old) result }
     {
         if let Some(fault) = self.dial_fault(place) {
             return Err(Failure::Refused(fault));
@@ -168,7 +180,9 @@ impl Sessions {
     /// Refused: 74 where [`MAX_SESSIONS`] stand; 75 where the numbers have come to [`MAX_COUNTER`]. Any
     /// `Err` leaves all as it was.
     pub fn accept(&mut self) -> Result<(SessionId, RouteInfo), Failure<SessionFault>>
-        ensures { IsAnswered (refusal self.old Accept) (λ given. DoesStep self.old Accept (Accepted given.0 given.1) self.new) (self.new ≡ self.old) result }
+        ensures { IsAnswered (refusal self.old Accept)
+            (λ given. DoesStep self.old Accept (Accepted given.0 given.1) self.new)
+            (self.new ≡ self.old) result }
     {
         if let Some(fault) = self.accept_fault() {
             return Err(Failure::Refused(fault));
@@ -211,7 +225,8 @@ impl Sessions {
     /// The session of this number, which is not completed yet.
     fn open_at(&self, session: SessionId) -> Option<Session>
         ensures same { result ≡ open_session session self.now.state.standing }
-        ensures dial { IfSome result (λ session. is_dial MAX_COUNTER session.serial session.dialed ≡ true) }
+        ensures dial { IfSome result (λ session.
+            is_dial MAX_COUNTER session.serial session.dialed ≡ true) }
     {
         let session = session_at(&self.standing, session.get())?;
         if session.kept.is_some() {
@@ -222,7 +237,12 @@ impl Sessions {
 
     /// What an `INFO` offers on a dialed session.
     fn offer_of_info(&self, session: Session, info: &RouteInfo, peer: usize) -> Offer
-        ensures { result ≡ record { peer = peer; inc = info.now.inc; dialer = self.now.server.me; serial = session.serial } }
+        ensures { result ≡ record {
+          peer = peer;
+          inc = info.now.inc;
+          dialer = self.now.server.me;
+          serial = session.serial;
+        } }
     {
         Offer {
             peer,
@@ -234,7 +254,8 @@ impl Sessions {
 
     /// What is offered, where no session that is as good or better is kept.
     fn if_better(&self, offer: Offer) -> Result<Offer, SessionFault>
-        ensures { IsDecided (duplicate_fault offer (kept_for offer.peer self.now.state.standing)) (λ kept. kept ≡ offer) ⊤ result }
+        ensures { IsDecided (duplicate_fault offer (kept_for offer.peer self.now.state.standing))
+            (λ kept. kept ≡ offer) ⊤ result }
     {
         match duplicate(&self.standing, offer) {
             Some(fault) => Err(fault),
@@ -249,7 +270,8 @@ impl Sessions {
         info: &RouteInfo,
         least: u64,
     ) -> Result<Offer, SessionFault>
-        ensures { IsDecided (refusal self.now (OnInfo session info.now least)) (λ offer. IsInfoOffer self.now session info.now offer) ⊤ result }
+        ensures { IsDecided (refusal self.now (OnInfo session info.now least))
+            (λ offer. IsInfoOffer self.now session info.now offer) ⊤ result }
     {
         let Some(session) = self.open_at(session) else {
             return Err(SessionFault::UnknownSession);
@@ -273,7 +295,8 @@ impl Sessions {
         connect: &RouteConnect,
         least: u64,
     ) -> Result<Offer, SessionFault>
-        ensures { IsDecided (refusal self.now (OnConnect session connect.now least)) (λ offer. IsConnectOffer self.now connect.now offer) ⊤ result }
+        ensures { IsDecided (refusal self.now (OnConnect session connect.now least))
+            (λ offer. IsConnectOffer self.now connect.now offer) ⊤ result }
     {
         let Some(session) = self.open_at(session) else {
             return Err(SessionFault::UnknownSession);
@@ -297,7 +320,10 @@ impl Sessions {
     fn complete(&mut self, session: SessionId, offer: Offer) -> Kept
         requires { peer self.old.server offer.peer ≡ true }
         ensures given { result.instead_of ≡ number_kept offer.peer self.old.state.standing }
-        ensures kept { self.new ≡ record { server = self.old.server; state = after_completion session offer self.old.state } }
+        ensures kept { self.new ≡ record {
+          server = self.old.server;
+          state = after_completion session offer self.old.state;
+        } }
     {
         let instead_of = kept_id(&self.standing, offer.peer);
         complete(&mut self.standing, session.get(), offer);
@@ -329,7 +355,11 @@ impl Sessions {
         info: &RouteInfo,
         least: u64,
     ) -> Result<(Kept, RouteConnect), SessionFault>
-        ensures { IsDecided (refusal self.old (OnInfo session info.now least)) (λ done. DoesStep self.old (OnInfo session info.now least) (KeptAfterInfo done.0.instead_of done.1) self.new) (self.new ≡ self.old) result }
+        ensures { IsDecided (refusal self.old (OnInfo session info.now least))
+            (λ done.
+            DoesStep self.old (OnInfo session info.now least)
+            (KeptAfterInfo done.0.instead_of done.1) self.new)
+            (self.new ≡ self.old) result }
     {
         let offer = self.info_offer(session, info, least)?;
         let kept = self.complete(session, offer);
@@ -363,7 +393,11 @@ impl Sessions {
         connect: &RouteConnect,
         least: u64,
     ) -> Result<Kept, SessionFault>
-        ensures { IsDecided (refusal self.old (OnConnect session connect.now least)) (λ kept. DoesStep self.old (OnConnect session connect.now least) (WasKept kept.instead_of) self.new) (self.new ≡ self.old) result }
+        ensures { IsDecided (refusal self.old (OnConnect session connect.now least))
+            (λ kept.
+            DoesStep self.old (OnConnect session connect.now least) (WasKept kept.instead_of)
+            self.new)
+            (self.new ≡ self.old) result }
     {
         let offer = self.connect_offer(session, connect, least)?;
         Ok(self.complete(session, offer))
@@ -383,8 +417,11 @@ impl Sessions {
     ///
     /// Refused: 73 where the session doesn't stand; that leaves all as it was. Takes no memory.
     pub fn cut(&mut self, session: SessionId) -> Result<Option<usize>, SessionFault>
-        ensures done { IsDecided (refusal self.old (Cut session)) (λ place. DoesStep self.old (Cut session) (WasCut place) self.new) (self.new ≡ self.old) result }
-        ensures peer { IfOk result (λ cut. IfSome cut (λ place. peer self.old.server place ≡ true)) }
+        ensures done { IsDecided (refusal self.old (Cut session))
+            (λ place. DoesStep self.old (Cut session) (WasCut place) self.new) (self.new ≡ self.old)
+            result }
+        ensures peer { IfOk result (λ cut.
+            IfSome cut (λ place. peer self.old.server place ≡ true)) }
     {
         let Some(ended) = session_at(&self.standing, session.get()) else {
             return Err(SessionFault::UnknownSession);
@@ -395,7 +432,8 @@ impl Sessions {
 
     /// Ends the kept session of the peer at this place, where there is one. Takes no memory.
     pub fn drop_kept(&mut self, place: usize)
-        ensures { self.new ≡ record { server = self.old.server; state = without_peer place self.old.state } }
+        ensures { self.new
+            ≡ record { server = self.old.server; state = without_peer place self.old.state } }
     {
         drop_kept(&mut self.standing, place);
     }

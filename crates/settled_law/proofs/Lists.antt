@@ -8,7 +8,8 @@ use Rattle.list_laws.proofs.Tests.{and_true}
 
 pub in_at : {A : Type 0} (xs : List A) (x : A) → In x xs → (j : ℕ) × (slice_get xs j ≡ Some x)
 in_at [] x i = absurd i
-in_at (y ∷ xs) x i = ⊎_elim (λ (e : x ≡ y). (0, ap Some (sym e))) (λ (k : In x xs). let h = in_at xs x k in (suc h.0, h.1)) i
+in_at (y ∷ xs) x i =
+    ⊎_elim (λ (e : x ≡ y). (0, ap Some (sym e))) (λ (k : In x xs). let h = in_at xs x k in (suc h.0, h.1)) i
 
 pub all_so : {A : Type 0} (test : A → Bool) (xs : List A) → Each (λ x. test x ≡ true) xs → list_all test xs ≡ true
 all_so test [] each = refl

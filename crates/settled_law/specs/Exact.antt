@@ -9,9 +9,19 @@ use Rattle.settled_law.specs.Settled.{IsSettled, IsRoomy}
 use Rattle.settled_law.specs.Tests.{settled_for, room_for}
 
 pub record TestsAreExact : Type 0 where
-  pub settled : (c : Cluster) → IsCluster c → (events : List Event) (w : World) → Run c (new_world c) events w → (subject : List ℕ) → (settled_for c w subject ≡ true) ↔ IsSettled c w subject
+  pub settled : (c : Cluster)
+      → IsCluster c
+      → (events : List Event) (w : World)
+      → Run c (new_world c) events w
+      → (subject : List ℕ)
+      → (settled_for c w subject ≡ true) ↔ IsSettled c w subject
   pub room : (w : World) (message : Content) → (room_for w message ≡ true) ↔ IsRoomy w message
 
 -- and so in each world that a value carries
 abbrev pub CarriedTestsAreExact : Type 0
-CarriedTestsAreExact = (c : Cluster) → IsCluster c → (w : World) → Carried c w → ∥ ((subject : List ℕ) → (settled_for c w subject ≡ true) ↔ IsSettled c w subject) ∥₁
+CarriedTestsAreExact =
+    (c : Cluster)
+    → IsCluster c
+    → (w : World)
+    → Carried c w
+    → ∥ ((subject : List ℕ) → (settled_for c w subject ≡ true) ↔ IsSettled c w subject) ∥₁

@@ -1,4 +1,5 @@
--- Settled delivery: from a cluster that is settled for a publication, each plain subscription and each queue group gets it once.
+-- Settled delivery: from a cluster that is settled for a publication, each plain subscription and
+-- each queue group gets it once.
 use Rattle.std.specs.Prelude.{◌≡◌, ℕ, Bool, true, false, ◌&&◌, nat_eq, List, ◌∷◌, length, filter, Some, None, slice_get}
 use Rattle.std.specs.Str.{bytes_eq}
 use Rattle.list_laws.specs.Lists.{In, Each}
@@ -22,10 +23,12 @@ use Rattle.settled_law.specs.Settled.{IsSettled, IsRoomy}
 -- ---- placements of a publication
 
 abbrev pub is_id : PubId → PubId → Bool
-is_id id other = bytes_eq other.origin id.origin && (nat_eq other.inc id.inc && nat_eq other.number id.number)
+is_id id other =
+    bytes_eq other.origin id.origin && (nat_eq other.inc id.inc && nat_eq other.number id.number)
 
 abbrev pub is_life : LifeId → LifeId → Bool
-is_life life other = nat_eq other.node life.node && (nat_eq other.inc life.inc && is_sub life.sub other.sub)
+is_life life other =
+    nat_eq other.node life.node && (nat_eq other.inc life.inc && is_sub life.sub other.sub)
 
 abbrev pub is_plain_mode : Mode → Bool
 is_plain_mode Plain = true
@@ -41,15 +44,29 @@ is_for_group id name x = is_id id x.id && is_named name (mode_name x.mode)
 
 -- ---- the promise
 
--- no event is refused; each plain subscription that was open and matches gets one message of the publication, and so does each
--- queue name with an open member that matches, anywhere (NATS documentation, "Queue Groups")
-pub record IsDelivered (w : World) (id : PubId) (subject : List ℕ) (outcomes : List Outcome) (w' : World) : Type 0 where
+-- no event is refused; each plain subscription that was open and matches gets one message of the
+-- publication, and so does each queue name with an open member that matches, anywhere (NATS
+-- documentation, "Queue Groups")
+pub record IsDelivered (w : World) (id : PubId) (subject : List ℕ) (outcomes : List Outcome)
+    (w' : World) : Type 0 where
   pub done : Each IsDone outcomes
-  pub plain : (life : Life) → In life w.lives → life.closed ≡ None → life.key.queue ≡ None → subject_matches life.key.pattern subject ≡ true → length (filter (is_for_life id life.id) w'.placements) ≡ 1
-  pub groups : (name : List ℕ) (life : Life) → In life w.lives → life.closed ≡ None → life.key.queue ≡ Some name → subject_matches life.key.pattern subject ≡ true → length (filter (is_for_group id name) w'.placements) ≡ 1
+  pub plain : (life : Life)
+      → In life w.lives
+      → life.closed ≡ None
+      → life.key.queue ≡ None
+      → subject_matches life.key.pattern subject ≡ true
+      → length (filter (is_for_life id life.id) w'.placements) ≡ 1
+  pub groups : (name : List ℕ) (life : Life)
+      → In life w.lives
+      → life.closed ≡ None
+      → life.key.queue ≡ Some name
+      → subject_matches life.key.pattern subject ≡ true
+      → length (filter (is_for_group id name) w'.placements) ≡ 1
 
--- a publish with echo of a server that is up, for which the cluster is settled and has room, and an order of work behind it
-pub record IsRight (c : Cluster) (w : World) (n : ℕ) (a : Running) (p : Publication) (order : List Event) : Type 0 where
+-- a publish with echo of a server that is up, for which the cluster is settled and has room, and an
+-- order of work behind it
+pub record IsRight (c : Cluster) (w : World) (n : ℕ) (a : Running) (p : Publication)
+    (order : List Event) : Type 0 where
   pub up : slice_get w.nodes n ≡ Some (Some a)
   pub echo : p.publication.echo ≡ true
   pub settled : IsSettled c w (subject_of p)
@@ -59,12 +76,20 @@ pub record IsRight (c : Cluster) (w : World) (n : ℕ) (a : Running) (p : Public
 -- of every run from there
 abbrev pub Delivers : Cluster → World → Type 0
 Delivers c w =
-    (n : ℕ) (a : Running) (p : Publication) (order : List Event) → IsRight c w n a p order
-    → (outcomes : List Outcome) (w' : World) → Answers c w (At n (Publish p) ∷ order) outcomes w' → IsDelivered w (next_id (server_at c n a.inc) a.node.hub) (subject_of p) outcomes w'
+    (n : ℕ) (a : Running) (p : Publication) (order : List Event)
+    → IsRight c w n a p order
+    → (outcomes : List Outcome) (w' : World)
+    → Answers c w (At n (Publish p) ∷ order) outcomes w'
+    → IsDelivered w (next_id (server_at c n a.inc) a.node.hub) (subject_of p) outcomes w'
 
 -- in each world that a run reaches
 abbrev pub SettledDelivers : Type 0
-SettledDelivers = (c : Cluster) → IsCluster c → (events : List Event) (w : World) → Run c (new_world c) events w → Delivers c w
+SettledDelivers =
+    (c : Cluster)
+    → IsCluster c
+    → (events : List Event) (w : World)
+    → Run c (new_world c) events w
+    → Delivers c w
 
 -- and so where some run is carried along
 abbrev pub CarriedDelivers : Type 0

@@ -8,15 +8,16 @@ use Rattle.node_law.specs.Events.{Accept}
 use Rattle.settled_law.specs.Orders.{IsOrder}
 use Rattle.settled_law.specs.Tests.{settled_for, room_for}
 
--- Both are up and joined, and have heard all. The first one has a plain subscription, the second a plain one and a member of a
--- group. The frames are the INFO of the second, the CONNECT and the snapshot of the first, the snapshot of the second, the first
--- one's change, and the second one's two.
+-- Both are up and joined, and have heard all. The first one has a plain subscription, the second a
+-- plain one and a member of a group. The frames are the INFO of the second, the CONNECT and the
+-- snapshot of the first, the snapshot of the second, the first one's change, and the second one's
+-- two.
 abbrev pub before_the_last : List Event
 before_the_last =
-    Start 0 1 ∷ Start 1 4
-    ∷ At 0 (Dial 1) ∷ At 1 Accept ∷ OnInfo 0 1 1 ∷ OnConnect 1 1 2 ∷ Receive 1 3 ∷ Receive 0 4
-    ∷ attach 0 1 ∷ subscribe 0 1 None (codes "1") ∷ collect 0 1 ∷ Receive 1 5
-    ∷ attach 1 1 ∷ subscribe 1 1 None (codes "1") ∷ subscribe 1 1 member (codes "2") ∷ collect 1 1 ∷ []
+    Start 0 1 ∷ Start 1 4 ∷ At 0 (Dial 1) ∷ At 1 Accept ∷ OnInfo 0 1 1 ∷ OnConnect 1 1 2
+    ∷ Receive 1 3 ∷ Receive 0 4 ∷ attach 0 1 ∷ subscribe 0 1 None (codes "1") ∷ collect 0 1
+    ∷ Receive 1 5 ∷ attach 1 1 ∷ subscribe 1 1 None (codes "1") ∷ subscribe 1 1 member (codes "2")
+    ∷ collect 1 1 ∷ []
 
 abbrev pub prepared : List Event
 prepared = before_the_last ++ (Receive 0 6 ∷ Receive 0 7 ∷ [])
@@ -34,7 +35,9 @@ pub record APairSettles : Type 0 where
   pub settled : settled_for pair (end_of pair prepared) (codes "foo") ≡ true
   pub roomy : room_for (end_of pair prepared) hi.publication.message ≡ true
   -- the order is right
-  pub right : (a : Running) → slice_get (end_of pair prepared).nodes 0 ≡ Some (Some a) → IsOrder pair (end_of pair prepared) 0 a hi order
+  pub right : (a : Running)
+      → slice_get (end_of pair prepared).nodes 0 ≡ Some (Some a)
+      → IsOrder pair (end_of pair prepared) 0 a hi order
   -- nothing is refused, and there are three placements
   pub all_done : outcomes pair (prepared ++ (publish 0 ∷ order)) ≡ done 25
   pub placed : length (end_of pair (prepared ++ (publish 0 ∷ order))).placements ≡ 3

@@ -18,13 +18,18 @@ use Rattle.settled_law.specs.Room.{HasRoom, IsMember}
 
 -- ---- what a server knows of another one
 
--- the view has just the keys of the open subscriptions, each with the number of them, and a plain key with 1
+-- the view has just the keys of the open subscriptions, each with the number of them, and a plain
+-- key with 1
 pub record Tells (keys : View) (lines : List ShardWithJobs) : Type 0 where
-  pub told : (key : Key) (weight : ℕ) → In (key, weight) keys → (0 < times key (open_keys lines)) × (weight ≡ told_weight key (times key (open_keys lines)))
-  pub all : (key : Key) → 0 < times key (open_keys lines) → In (key, told_weight key (times key (open_keys lines))) keys
+  pub told : (key : Key) (weight : ℕ)
+      → In (key, weight) keys
+      → (0 < times key (open_keys lines)) × (weight ≡ told_weight key (times key (open_keys lines)))
+  pub all : (key : Key)
+      → 0 < times key (open_keys lines)
+      → In (key, told_weight key (times key (open_keys lines))) keys
 
--- the other is up at the incarnation that runs, which is the greatest seen of it, and a session with that is kept; its view is that
--- of its open subscriptions; and there is room for a frame
+-- the other is up at the incarnation that runs, which is the greatest seen of it, and a session
+-- with that is kept; its view is that of its open subscriptions; and there is room for a frame
 pub record PeerIsSettled (a b : Running) (q : ℕ) : Type 0 where
   pub peer : Peer
   pub at : slice_get a.node.hub.peers q ≡ Some peer
@@ -44,7 +49,9 @@ pub record LineIsSettled (line : ShardWithJobs) : Type 0 where
 
 -- it does not drain, and one more publication and one more turn can be numbered
 pub record NodeIsSettled (a : Running) : Type 0 where
-  pub lines : (place : ℕ) (line : ShardWithJobs) → slice_get a.node.lines place ≡ Some line → LineIsSettled line
+  pub lines : (place : ℕ) (line : ShardWithJobs)
+      → slice_get a.node.lines place ≡ Some line
+      → LineIsSettled line
   pub lasting : a.node.hub.draining ≡ false
   pub issued : a.node.hub.issued < MAX_COUNTER
   pub published : a.node.hub.published < MAX_COUNTER
@@ -67,13 +74,24 @@ pub record IsWantedName (w : World) (subject name : List ℕ) : Type 0 where
 pub record IsQuiet (c : Cluster) (w : World) : Type 0 where
   pub up : (m : ℕ) → m < length c.names → (a : Running) × (slice_get w.nodes m ≡ Some (Some a))
   pub nodes : EachUp (λ n a. NodeIsSettled a) w
-  pub peers : (m q : ℕ) (a b : Running) → m ≢ q → slice_get w.nodes m ≡ Some (Some a) → slice_get w.nodes q ≡ Some (Some b) → PeerIsSettled a b q
+  pub peers : (m q : ℕ) (a b : Running)
+      → m ≢ q
+      → slice_get w.nodes m ≡ Some (Some a)
+      → slice_get w.nodes q ≡ Some (Some b)
+      → PeerIsSettled a b q
 
 -- and there are not too many queue names that match
 pub record IsSettled (c : Cluster) (w : World) (subject : List ℕ) : Type 0 where
   pub quiet : IsQuiet c w
-  pub few : (names : List (List ℕ)) → Pairs (λ x y. x ≢ y) names → Each (IsWantedName w subject) names → length names ≤ MAX_QUEUE_NAMES
+  pub few : (names : List (List ℕ))
+      → Pairs (λ x y. x ≢ y) names
+      → Each (IsWantedName w subject) names
+      → length names ≤ MAX_QUEUE_NAMES
 
 -- each connection has room for the messages of all its open matching subscriptions together
 pub record IsRoomy (w : World) (message : Content) : Type 0 where
-  pub room : EachUp (λ n a. (place : ℕ) (line : ShardWithJobs) → slice_get a.node.lines place ≡ Some line → HasRoom message line.shard) w
+  pub room : EachUp (λ n a.
+      (place : ℕ) (line : ShardWithJobs)
+      → slice_get a.node.lines place ≡ Some line
+      → HasRoom message line.shard)
+      w

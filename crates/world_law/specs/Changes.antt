@@ -1,4 +1,5 @@
--- What a step adds to the lists: by what the event is, and by comparing the server before and after it.
+-- What a step adds to the lists: by what the event is, and by comparing the server before and after
+-- it.
 use Rattle.std.specs.Prelude.{◌≡◌, ℕ, ◌+◌, Bool, true, false, not, ◌&&◌, nat_eq, List, [], ◌∷◌, ◌++◌, length, drop, filter, map, Option, Some, None, is_none, slice_get, if◌then◌else◌}
 use Rattle.list_laws.specs.Lists.{Each, SubList}
 use Rattle.outbox.specs.Views.{Written}
@@ -27,7 +28,13 @@ use Rattle.world_law.specs.State.{Publication, LifeId, Life, Placement, Running,
 -- ---- publications: each publish that is accepted (profile)
 
 abbrev pub publication : ServerIdentity → ℕ → Node → hub.Publication → Publication
-publication server now a p = record { step = now; id = next_id server a.hub; message = p.publication.message; publisher = p.conn; echo = p.publication.echo }
+publication server now a p = record {
+  step = now;
+  id = next_id server a.hub;
+  message = p.publication.message;
+  publisher = p.conn;
+  echo = p.publication.echo;
+}
 
 abbrev pub own_publications : ServerIdentity → ℕ → Node → OwnEvent → List Publication
 own_publications server now a (OfConn conn event) = []
@@ -48,13 +55,27 @@ publications_of server now a (OnConnect session connect) = []
 
 -- ---- lives: a subscription opens where its sid was not open on its connection (profile)
 
-abbrev pub new_life : ServerIdentity → ℕ → ℕ → Key → List ℕ → ShardWithJobs → Option Subscription → List Life
+abbrev pub new_life : ServerIdentity → ℕ → ℕ → Key → List ℕ → ShardWithJobs → Option Subscription
+    → List Life
 new_life server now conn key sid line (Some same) = []
-new_life server now conn key sid line None = record { id = record { node = server.me; inc = server.inc; sub = id_of line.shard.shard (line.shard.opened + 1) }; conn = conn; key = key; sid = sid; opened = now; closed = None } ∷ []
+new_life server now conn key sid line None =
+    record {
+      id = record {
+        node = server.me;
+        inc = server.inc;
+        sub = id_of line.shard.shard (line.shard.opened + 1);
+      };
+      conn = conn;
+      key = key;
+      sid = sid;
+      opened = now;
+      closed = None;
+    } ∷ []
 
 abbrev pub conn_lives : ServerIdentity → ℕ → ℕ → ConnEvent → Option ShardWithJobs → List Life
 conn_lives server now conn event None = []
-conn_lives server now conn (Subscribe key sid) (Some line) = new_life server now conn key sid line (sub_called conn sid line.shard.subs)
+conn_lives server now conn (Subscribe key sid) (Some line) =
+    new_life server now conn key sid line (sub_called conn sid line.shard.subs)
 conn_lives server now conn (Unsubscribe sid max) (Some line) = []
 conn_lives server now conn (Reply frame) (Some line) = []
 conn_lives server now conn (Shut text) (Some line) = []
@@ -63,7 +84,8 @@ conn_lives server now conn (SetHeaders on) (Some line) = []
 conn_lives server now conn (Take count) (Some line) = []
 
 abbrev pub own_lives : ServerIdentity → ℕ → Node → OwnEvent → List Life
-own_lives server now a (OfConn conn event) = conn_lives server now conn event (conn_line server a conn)
+own_lives server now a (OfConn conn event) =
+    conn_lives server now conn event (conn_line server a conn)
 own_lives server now a (AtShard shard work) = []
 own_lives server now a (Publish p) = []
 own_lives server now a (Collect shard) = []
@@ -85,7 +107,8 @@ lives_of server now a (OnConnect session connect) = []
 abbrev pub is_open_at : ℕ → SubId → Option (Option Running) → Bool
 is_open_at inc sub None = false
 is_open_at inc sub (Some None) = false
-is_open_at inc sub (Some (Some running)) = nat_eq running.inc inc && is_open_in sub.serial (shard_line running.node sub.shard)
+is_open_at inc sub (Some (Some running)) =
+    nat_eq running.inc inc && is_open_in sub.serial (shard_line running.node sub.shard)
 
 abbrev pub is_open : List (Option Running) → LifeId → Bool
 is_open nodes id = is_open_at id.inc id.sub (slice_get nodes id.node)
@@ -96,34 +119,53 @@ LivesAreFound w = Each (λ life. life.closed ≡ None → is_open w.nodes life.i
 
 -- a life, where these are the servers after the step
 abbrev pub looked_at : ℕ → List (Option Running) → Life → Life
-looked_at now nodes life = if is_none life.closed && not (is_open nodes life.id) then record life { closed = Some now } else life
+looked_at now nodes life =
+    if is_none life.closed && not (is_open nodes life.id) then record life { closed = Some now }
+    else life
 
--- ---- placements: the new messages in the outboxes. A take removes what stood in front, and a connection that goes takes its
--- outbox along: there is nothing new in either. Else what waited stays, and what is new stands behind it.
+-- ---- placements: the new messages in the outboxes. A take removes what stood in front, and a
+-- connection that goes takes its outbox along: there is nothing new in either. Else what waited
+-- stays, and what is new stands behind it.
 
 -- at one shard
 abbrev pub new_in : ShardWithJobs → ShardWithJobs → ℕ → List Written
-new_in line new conn = drop (length (waits_for conn line.shard.clients)) (waits_for conn new.shard.clients)
+new_in line new conn =
+    drop (length (waits_for conn line.shard.clients)) (waits_for conn new.shard.clients)
 
 abbrev pub new_entries : List ShardWithJobs → List ShardWithJobs → ℕ → List Written
 new_entries [] after conn = []
 new_entries (line ∷ lines) [] conn = []
 new_entries (line ∷ lines) (new ∷ after) conn = new_in line new conn ++ new_entries lines after conn
 
--- the placement of an entry, with whether its connection takes headers; an answer or a last line is none
+-- the placement of an entry, with whether its connection takes headers; an answer or a last line is
+-- none
 abbrev pub placement_of : ServerIdentity → ℕ → ℕ → Bool → List ℕ → Tag → List Placement
 placement_of server now conn headers bytes tag.Reply = []
-placement_of server now conn headers bytes (tag.Msg id sub mode) = record { step = now; life = record { node = server.me; inc = server.inc; sub = sub }; conn = conn; id = id; mode = mode; bytes = bytes; headers = headers } ∷ []
+placement_of server now conn headers bytes (tag.Msg id sub mode) =
+    record {
+      step = now;
+      life = record { node = server.me; inc = server.inc; sub = sub };
+      conn = conn;
+      id = id;
+      mode = mode;
+      bytes = bytes;
+      headers = headers;
+    } ∷ []
 
 abbrev pub placements_of : ServerIdentity → ℕ → ℕ → Bool → List Written → List Placement
 placements_of server now conn headers [] = []
-placements_of server now conn headers (entry ∷ entries) = placement_of server now conn headers entry.bytes entry.tag ++ placements_of server now conn headers entries
+placements_of server now conn headers (entry ∷ entries) =
+    placement_of server now conn headers entry.bytes entry.tag
+    ++ placements_of server now conn headers entries
 
 -- of all shards; the option is that from before the step
-abbrev pub new_placements : ServerIdentity → ℕ → List ShardWithJobs → List ShardWithJobs → ℕ → List Placement
+abbrev pub new_placements : ServerIdentity → ℕ → List ShardWithJobs → List ShardWithJobs → ℕ
+    → List Placement
 new_placements server now [] after conn = []
 new_placements server now (line ∷ lines) [] conn = []
-new_placements server now (line ∷ lines) (new ∷ after) conn = placements_of server now conn (takes_headers conn line.shard.clients) (new_in line new conn) ++ new_placements server now lines after conn
+new_placements server now (line ∷ lines) (new ∷ after) conn =
+    placements_of server now conn (takes_headers conn line.shard.clients) (new_in line new conn)
+    ++ new_placements server now lines after conn
 
 abbrev pub is_on : ℕ → Placement → Bool
 is_on conn p = nat_eq p.conn conn
@@ -131,28 +173,39 @@ is_on conn p = nat_eq p.conn conn
 -- all open subscriptions, shard by shard, in order of opening
 abbrev pub open_subs : List ShardWithJobs → List SubId
 open_subs [] = []
-open_subs (line ∷ lines) = map (id_of line.shard.shard) (serials_of line.shard.subs) ++ open_subs lines
+open_subs (line ∷ lines) =
+    map (id_of line.shard.shard) (serials_of line.shard.subs) ++ open_subs lines
 
--- these are the placements, where the shards' lines were the first and are the second: of each connection the new messages of
--- its outbox, in their order; and all of them in the order of their subscriptions
-pub record AreGained (server : ServerIdentity) (now : ℕ) (old new : List ShardWithJobs) (gained : List Placement) : Type 0 where
+-- these are the placements, where the shards' lines were the first and are the second: of each
+-- connection the new messages of its outbox, in their order; and all of them in the order of their
+-- subscriptions
+pub record AreGained (server : ServerIdentity) (now : ℕ) (old new : List ShardWithJobs)
+    (gained : List Placement) : Type 0 where
   pub outboxes : (conn : ℕ) → filter (is_on conn) gained ≡ new_placements server now old new conn
   pub order : SubList (map (λ p. p.life.sub) gained) (open_subs old)
 
 -- so there is one such list, where the server is sound
 abbrev pub PlacementsAreOne : Type 0
 PlacementsAreOne =
-    (server : ServerIdentity) (now : ℕ) (a : Node) (after : List ShardWithJobs) (gained other : List Placement)
-    → SoundNode server a → AreGained server now a.lines after gained → AreGained server now a.lines after other → gained ≡ other
+    (server : ServerIdentity) (now : ℕ) (a : Node) (after : List ShardWithJobs)
+    (gained other : List Placement)
+    → SoundNode server a
+    → AreGained server now a.lines after gained
+    → AreGained server now a.lines after other
+    → gained ≡ other
 
--- ---- what stands new behind what waited, messages and lines: what the event puts for a connection of the shard at this place, in order
+-- ---- what stands new behind what waited, messages and lines: what the event puts for a connection
+-- of the shard at this place, in order
 
 abbrev pub entries_at : Option Part → ℕ → ℕ → List Written
 entries_at None place conn = []
-entries_at (Some part) place conn = if nat_eq part.place place then entries_for conn (put_by part.line.shard part.event) else []
+entries_at (Some part) place conn =
+    if nat_eq part.place place then entries_for conn (put_by part.line.shard part.event) else []
 
 abbrev pub EntriesWerePut : Type 0
 EntriesWerePut =
-    (server : ServerIdentity) (a : Node) (e : NodeEvent) (won : Bool) (race : RaceState) (b : Node) (place conn : ℕ)
+    (server : ServerIdentity) (a : Node) (e : NodeEvent) (won : Bool) (race : RaceState) (b : Node)
+    (place conn : ℕ)
     → NodeStep server a e won race b
-    → drop (length (waits_at a place conn)) (waits_at b place conn) ≡ entries_at (part_of server a e won) place conn
+    → drop (length (waits_at a place conn)) (waits_at b place conn)
+    ≡ entries_at (part_of server a e won) place conn

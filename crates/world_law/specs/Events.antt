@@ -1,4 +1,5 @@
--- What a cluster is asked. Servers are named by their places; frames by their numbers among all that were sent, from 1.
+-- What a cluster is asked. Servers are named by their places; frames by their numbers among all
+-- that were sent, from 1.
 use Rattle.std.specs.Prelude.{ℕ, zero, suc, List, Option, Some, None, slice_get}
 use Rattle.route_values.specs.declared.frames.RouteFrame.{RouteFrame}
 use Rattle.route_values.specs.declared.frames.RouteFrame.TheVariants as route

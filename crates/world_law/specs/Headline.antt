@@ -18,19 +18,22 @@ pub record IsCluster (c : Cluster) : Type 0 where
 abbrev pub PlainOnce : Placement → Placement → Type 0
 PlainOnce p q = p.mode ≡ Plain → p.id ≡ q.id → p.life ≡ q.life → ⊥
 
--- not one publication twice for a queue name, in the whole cluster: over all servers, incarnations, connections and steps
--- (NATS documentation, "Queue Groups": one member gets each message; that it gets it once: profile)
+-- not one publication twice for a queue name, in the whole cluster: over all servers, incarnations,
+-- connections and steps (NATS documentation, "Queue Groups": one member gets each message; that it
+-- gets it once: profile)
 abbrev pub OneMember : Placement → Placement → Type 0
 OneMember p q = (name : List ℕ) → p.id ≡ q.id → p.mode ≡ Queue name → q.mode ≡ Queue name → ⊥
 
 -- of one subscription, the publications of one incarnation of a server come in rising number
 abbrev pub InOrder : Placement → Placement → Type 0
-InOrder p q = p.life ≡ q.life → p.id.origin ≡ q.id.origin → p.id.inc ≡ q.id.inc → p.id.number < q.id.number
+InOrder p q =
+    p.life ≡ q.life → p.id.origin ≡ q.id.origin → p.id.inc ≡ q.id.inc → p.id.number < q.id.number
 
--- the exact MSG or HMSG of a publication of an earlier step, for a subscription of that connection, sid and queue name that matches,
--- was opened before that step and did not close before it; HMSG just where the publication has headers and the connection took
--- them at that step
-pub record IsOwed (publications : List Publication) (lives : List Life) (p : Placement) : Type 0 where
+-- the exact MSG or HMSG of a publication of an earlier step, for a subscription of that connection,
+-- sid and queue name that matches, was opened before that step and did not close before it; HMSG
+-- just where the publication has headers and the connection took them at that step
+pub record IsOwed (publications : List Publication) (lives : List Life) (p : Placement) :
+    Type 0 where
   pub source : Publication
   pub source_in : In source publications
   pub id : source.id ≡ p.id
@@ -62,4 +65,6 @@ EachUp P w = (n : ℕ) (a : Running) → slice_get w.nodes n ≡ Some (Some a) �
 
 -- each frame that a take from a peer gives stands among those that were sent
 abbrev pub AreSent : World → Type 0
-AreSent w = EachUp (λ n a. (q count : ℕ) → Each (λ f. In (Numbered f) w.sent) (first_frames a.node.hub q count)) w
+AreSent w =
+    EachUp
+    (λ n a. (q count : ℕ) → Each (λ f. In (Numbered f) w.sent) (first_frames a.node.hub q count)) w

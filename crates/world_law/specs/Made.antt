@@ -1,4 +1,5 @@
--- What a run makes that no list of the world keeps: the jobs of servers, and the changes of their interest.
+-- What a run makes that no list of the world keeps: the jobs of servers, and the changes of their
+-- interest.
 use Rattle.std.specs.Prelude.{ℕ, Bool, nat_eq, ◌&&◌, List, [], ◌∷◌, ◌++◌, map, filter, Option, Some, None, slice_get}
 use Rattle.interest.specs.declared.changes.Change.{Change}
 use Rattle.subj.specs.declared.jobs.Job.{Job}
@@ -16,9 +17,12 @@ pub record Passed : Type 0 where
   pub before : World
   pub event : Event
 
-abbrev pub passed_events : (c : Cluster) (w : World) (events : List Event) (w' : World) → Run c w events w' → List Passed
+abbrev pub passed_events : (c : Cluster) (w : World) (events : List Event) (w' : World)
+    → Run c w events w'
+    → List Passed
 passed_events c w [] w' run = []
-passed_events c w (e ∷ es) w' run = record { before = w; event = e } ∷ passed_events c run.0 es w' run.3
+passed_events c w (e ∷ es) w' run =
+    record { before = w; event = e } ∷ passed_events c run.0 es w' run.3
 
 -- ---- which server makes a step of its own in an event, and what it is asked there
 
@@ -37,8 +41,10 @@ abbrev pub acting_in : World → Event → Option Acting
 acting_in w (Start n inc) = None
 acting_in w (Stop n) = None
 acting_in w (Receive n k) = acting_at n (slice_get w.nodes n) (event_for w (Receive n k))
-acting_in w (OnInfo n session k) = acting_at n (slice_get w.nodes n) (event_for w (OnInfo n session k))
-acting_in w (OnConnect n session k) = acting_at n (slice_get w.nodes n) (event_for w (OnConnect n session k))
+acting_in w (OnInfo n session k) =
+    acting_at n (slice_get w.nodes n) (event_for w (OnInfo n session k))
+acting_in w (OnConnect n session k) =
+    acting_at n (slice_get w.nodes n) (event_for w (OnConnect n session k))
 acting_in w (At n event) = acting_at n (slice_get w.nodes n) (event_for w (At n event))
 
 -- none does, where the event is refused
@@ -59,7 +65,9 @@ pub record MadeJob : Type 0 where
 
 abbrev pub jobs_of : Cluster → Option Acting → List MadeJob
 jobs_of c None = []
-jobs_of c (Some x) = map (λ job. record { node = x.node; inc = x.running.inc; job = job }) (jobs_by (server_at c x.node x.running.inc) x.running.node x.asked)
+jobs_of c (Some x) =
+    map (λ job. record { node = x.node; inc = x.running.inc; job = job })
+    (jobs_by (server_at c x.node x.running.inc) x.running.node x.asked)
 
 abbrev pub jobs_made : Cluster → List Passed → List MadeJob
 jobs_made c [] = []
@@ -74,7 +82,9 @@ pub record MadeChange : Type 0 where
 
 abbrev pub changes_of : Option Acting → List MadeChange
 changes_of None = []
-changes_of (Some x) = map (λ change. record { node = x.node; inc = x.running.inc; change = change }) (changes_by x.running.node x.asked)
+changes_of (Some x) =
+    map (λ change. record { node = x.node; inc = x.running.inc; change = change })
+    (changes_by x.running.node x.asked)
 
 abbrev pub changes_made : Cluster → List Passed → List MadeChange
 changes_made c [] = []

@@ -1,4 +1,5 @@
--- The exact cluster as a program on lists: with a race that forgets nothing, each event has one outcome and one next world.
+-- The exact cluster as a program on lists: with a race that forgets nothing, each event has one
+-- outcome and one next world.
 use Rattle.std.specs.Prelude.{◌≡◌, ℕ, suc, ◌+◌, ◌-◌, ◌<◌, Bool, true, false, List, [], ◌∷◌, ◌++◌, slice_set, Option, Some, None, is_none, slice_get}
 use Rattle.claim_race.specs.Race.{RaceState, Win, winner}
 use Rattle.sub_table.specs.declared.Subscription.{Subscription}
@@ -41,11 +42,16 @@ is_free race turn index = is_none (winner race turn index)
 abbrev pub claimed_next : RaceState → ℕ → ℕ → ℕ → RaceState
 claimed_next race shard turn index = record race {
   next = slice_set race.next (shard - 1) (index + 1);
-  won = with_win (is_free race turn index) (record { turn = turn; index = index; shard = shard }) race.won;
+  won =
+      with_win (is_free race turn index) (record { turn = turn; index = index; shard = shard })
+      race.won;
 }
 
 abbrev pub finished_next : RaceState → ℕ → ℕ → RaceState
-finished_next race shard turn = record race { finished = slice_set race.finished (shard - 1) turn; next = slice_set race.next (shard - 1) 0 }
+finished_next race shard turn = record race {
+  finished = slice_set race.finished (shard - 1) turn;
+  next = slice_set race.next (shard - 1) 0;
+}
 
 -- ---- what it says of each event
 
@@ -63,7 +69,8 @@ abbrev pub work_wins : RaceState → ShardWork → Option ShardWithJobs → Bool
 work_wins race work None = false
 work_wins race Attach (Some line) = false
 work_wins race Begin (Some line) = false
-work_wins race (Claim index) (Some line) = wins race index line.shard.hand (candidate_of line.shard line.shard.hand index)
+work_wins race (Claim index) (Some line) =
+    wins race index line.shard.hand (candidate_of line.shard line.shard.hand index)
 work_wins race End (Some line) = false
 work_wins race DrainShard (Some line) = false
 work_wins race DropJob (Some line) = false
@@ -72,7 +79,9 @@ abbrev pub race_after_work : RaceState → ℕ → ShardWork → Option ShardWit
 race_after_work race shard work None = race
 race_after_work race shard Attach (Some line) = race
 race_after_work race shard Begin (Some line) = race
-race_after_work race shard (Claim index) (Some line) = race_after_claim race shard index line.shard.hand (candidate_of line.shard line.shard.hand index)
+race_after_work race shard (Claim index) (Some line) =
+    race_after_claim race shard index line.shard.hand
+    (candidate_of line.shard line.shard.hand index)
 race_after_work race shard End (Some line) = finished_next race shard (line.shard.finished + 1)
 race_after_work race shard DrainShard (Some line) = race
 race_after_work race shard DropJob (Some line) = finished_next race shard (line.shard.finished + 1)
@@ -122,7 +131,8 @@ put_at None event = []
 put_at (Some line) event = put_if line (event line)
 
 abbrev pub puts : ServerIdentity → Node → NodeEvent → Bool → List Placed
-puts server a (Own (OfConn conn event)) won = put_at (conn_line server a conn) (λ line. Some (conn_event conn event))
+puts server a (Own (OfConn conn event)) won =
+    put_at (conn_line server a conn) (λ line. Some (conn_event conn event))
 puts server a (Own (AtShard shard work)) won = put_at (shard_line a shard) (work_event work won)
 puts server a (Own (Publish p)) won = []
 puts server a (Own (Collect shard)) won = []
@@ -137,31 +147,42 @@ puts server a (OnConnect session connect) won = []
 
 abbrev pub placements_put : ServerIdentity → ℕ → List Placed → List Placement
 placements_put server now [] = []
-placements_put server now (put ∷ puts) = placement_of server now put.conn put.headers put.entry.bytes put.entry.tag ++ placements_put server now puts
+placements_put server now (put ∷ puts) =
+    placement_of server now put.conn put.headers put.entry.bytes put.entry.tag
+    ++ placements_put server now puts
 
 -- they are what the step adds to the placements
 abbrev pub PutsArePlaced : Type 0
 PutsArePlaced =
-    (server : ServerIdentity) (now : ℕ) (a : Node) (e : NodeEvent) (won : Bool) (race : RaceState) (b : Node)
-    → NodeStep server a e won race b → AreGained server now a.lines b.lines (placements_put server now (puts server a e won))
+    (server : ServerIdentity) (now : ℕ) (a : Node) (e : NodeEvent) (won : Bool) (race : RaceState)
+    (b : Node)
+    → NodeStep server a e won race b
+    → AreGained server now a.lines b.lines (placements_put server now (puts server a e won))
 
 -- ---- the next world
 
 abbrev pub next_node : Cluster → ℕ → Running → NodeEvent → Node
-next_node c n a e = node_after (server_at c n a.inc) a.node e (node_wins a.node e) (node_race a.node e)
+next_node c n a e =
+    node_after (server_at c n a.inc) a.node e (node_wins a.node e) (node_race a.node e)
 
 abbrev pub next_act : Cluster → World → ℕ → Option (Option Running) → Option NodeEvent → World
 next_act c w n None event = w
 next_act c w n (Some None) event = w
 next_act c w n (Some (Some a)) None = w
-next_act c w n (Some (Some a)) (Some e) = world_after_step c w n a e (next_node c n a e) (placements_put (server_at c n a.inc) (suc w.step) (puts (server_at c n a.inc) a.node e (node_wins a.node e)))
+next_act c w n (Some (Some a)) (Some e) =
+    world_after_step c w n a e (next_node c n a e)
+    (placements_put (server_at c n a.inc) (suc w.step)
+    (puts (server_at c n a.inc) a.node e (node_wins a.node e)))
 
 abbrev pub world_after_event : Cluster → World → Event → World
 world_after_event c w (Start n inc) = world_after_start c w n inc
 world_after_event c w (Stop n) = world_after_stop w n
-world_after_event c w (of_world.Receive n k) = next_act c w n (slice_get w.nodes n) (event_for w (of_world.Receive n k))
-world_after_event c w (of_world.OnInfo n session k) = next_act c w n (slice_get w.nodes n) (event_for w (of_world.OnInfo n session k))
-world_after_event c w (of_world.OnConnect n session k) = next_act c w n (slice_get w.nodes n) (event_for w (of_world.OnConnect n session k))
+world_after_event c w (of_world.Receive n k) =
+    next_act c w n (slice_get w.nodes n) (event_for w (of_world.Receive n k))
+world_after_event c w (of_world.OnInfo n session k) =
+    next_act c w n (slice_get w.nodes n) (event_for w (of_world.OnInfo n session k))
+world_after_event c w (of_world.OnConnect n session k) =
+    next_act c w n (slice_get w.nodes n) (event_for w (of_world.OnConnect n session k))
 world_after_event c w (At n event) = next_act c w n (slice_get w.nodes n) (event_for w (At n event))
 
 abbrev pub next_of : Cluster → World → Event → Option WorldFault → World
@@ -182,14 +203,18 @@ abbrev pub slot_answer : Cluster → ℕ → Option (Option Running) → Option 
 slot_answer c n None event = Nothing
 slot_answer c n (Some None) event = Nothing
 slot_answer c n (Some (Some a)) None = Nothing
-slot_answer c n (Some (Some a)) (Some e) = node_answer (server_at c n a.inc) a.node e (node_wins a.node e)
+slot_answer c n (Some (Some a)) (Some e) =
+    node_answer (server_at c n a.inc) a.node e (node_wins a.node e)
 
 abbrev pub answer_of : Cluster → World → Event → Answer
 answer_of c w (Start n inc) = Nothing
 answer_of c w (Stop n) = Nothing
-answer_of c w (of_world.Receive n k) = slot_answer c n (slice_get w.nodes n) (event_for w (of_world.Receive n k))
-answer_of c w (of_world.OnInfo n session k) = slot_answer c n (slice_get w.nodes n) (event_for w (of_world.OnInfo n session k))
-answer_of c w (of_world.OnConnect n session k) = slot_answer c n (slice_get w.nodes n) (event_for w (of_world.OnConnect n session k))
+answer_of c w (of_world.Receive n k) =
+    slot_answer c n (slice_get w.nodes n) (event_for w (of_world.Receive n k))
+answer_of c w (of_world.OnInfo n session k) =
+    slot_answer c n (slice_get w.nodes n) (event_for w (of_world.OnInfo n session k))
+answer_of c w (of_world.OnConnect n session k) =
+    slot_answer c n (slice_get w.nodes n) (event_for w (of_world.OnConnect n session k))
 answer_of c w (At n event) = slot_answer c n (slice_get w.nodes n) (event_for w (At n event))
 
 abbrev pub outcome_of : Cluster → World → Event → Option WorldFault → Outcome

@@ -1,4 +1,5 @@
--- Why a cluster refuses an event, the first cause first (profile): 83 for the server; 80 or 81; 82, or 83 for the frame; and then the server's own.
+-- Why a cluster refuses an event, the first cause first (profile): 83 for the server; 80 or 81; 82,
+-- or 83 for the frame; and then the server's own.
 use Rattle.std.specs.Prelude.{ℕ, Bool, nat_eq, ◌&&◌, ◌||◌, List, Option, Some, None, slice_get, if◌then◌else◌}
 use Rattle.std.specs.Option.{option_map}
 use Rattle.std.specs.List.{list_any}
@@ -19,7 +20,8 @@ is_used n inc started = list_any (is_start n inc) started
 abbrev pub start_refusal : ℕ → ℕ → List (ℕ × ℕ) → Option (Option Running) → Option WorldFault
 start_refusal n inc started None = Some fault.NoSuch
 start_refusal n inc started (Some (Some running)) = Some fault.NodeUp
-start_refusal n inc started (Some None) = if nat_eq inc 0 || is_used n inc started then Some fault.UsedIncarnation else None
+start_refusal n inc started (Some None) =
+    if nat_eq inc 0 || is_used n inc started then Some fault.UsedIncarnation else None
 
 abbrev pub stop_refusal : Option (Option Running) → Option WorldFault
 stop_refusal None = Some fault.NoSuch
@@ -28,7 +30,8 @@ stop_refusal (Some (Some running)) = None
 
 abbrev pub event_refusal : Cluster → ℕ → Running → Option NodeEvent → Option WorldFault
 event_refusal c n running None = Some fault.NoSuch
-event_refusal c n running (Some event) = option_map fault.Node (node_refusal (server_at c n running.inc) running.node event)
+event_refusal c n running (Some event) =
+    option_map fault.Node (node_refusal (server_at c n running.inc) running.node event)
 
 abbrev pub refusal_at : Cluster → ℕ → Option NodeEvent → Option (Option Running) → Option WorldFault
 refusal_at c n event None = Some fault.NoSuch
@@ -39,6 +42,8 @@ abbrev pub world_refusal : Cluster → World → Event → Option WorldFault
 world_refusal c w (Start n inc) = start_refusal n inc w.started (slice_get w.nodes n)
 world_refusal c w (Stop n) = stop_refusal (slice_get w.nodes n)
 world_refusal c w (Receive n k) = refusal_at c n (event_for w (Receive n k)) (slice_get w.nodes n)
-world_refusal c w (OnInfo n session k) = refusal_at c n (event_for w (OnInfo n session k)) (slice_get w.nodes n)
-world_refusal c w (OnConnect n session k) = refusal_at c n (event_for w (OnConnect n session k)) (slice_get w.nodes n)
+world_refusal c w (OnInfo n session k) =
+    refusal_at c n (event_for w (OnInfo n session k)) (slice_get w.nodes n)
+world_refusal c w (OnConnect n session k) =
+    refusal_at c n (event_for w (OnConnect n session k)) (slice_get w.nodes n)
 world_refusal c w (At n event) = refusal_at c n (event_for w (At n event)) (slice_get w.nodes n)

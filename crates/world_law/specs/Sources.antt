@@ -16,7 +16,15 @@ numbers_by origin inc publications = map (λ p. p.id.number) (filter (is_by orig
 
 -- those of one incarnation are 1, 2, 3, .. in order, and none is left out (profile)
 abbrev pub AreCounted : World → Type 0
-AreCounted w = (origin : List ℕ) (inc : ℕ) → numbers_by origin inc w.publications ≡ range_with_len 1 (length (numbers_by origin inc w.publications))
+AreCounted w =
+    (origin : List ℕ) (inc : ℕ)
+    → numbers_by origin inc w.publications
+    ≡ range_with_len 1 (length (numbers_by origin inc w.publications))
 
 abbrev pub PublicationsAreCounted : Type 0
-PublicationsAreCounted = (c : Cluster) → IsCluster c → (events : List Event) (w : World) → Run c (new_world c) events w → AreCounted w
+PublicationsAreCounted =
+    (c : Cluster)
+    → IsCluster c
+    → (events : List Event) (w : World)
+    → Run c (new_world c) events w
+    → AreCounted w

@@ -24,11 +24,14 @@ abbrev pub answer_text : Answer → List ℕ
 answer_text (Attached conn) = codes "conn " ++ decimal conn
 answer_text (Opened sub) = codes "sub " ++ sub_text sub
 answer_text AlreadyOpen = codes "same"
-answer_text (Issued turn frames) = codes "turn " ++ (decimal turn ++ (codes " frames " ++ decimal frames))
+answer_text (Issued turn frames) =
+    codes "turn " ++ (decimal turn ++ (codes " frames " ++ decimal frames))
 answer_text (Routed turn) = codes "turn " ++ decimal turn
 answer_text (Heard mark) = codes "view " ++ decimal mark
-answer_text (Collected changes frames cut) = codes "changes " ++ (decimal changes ++ (codes " frames " ++ decimal frames))
-answer_text (Began placed shut) = codes "placed " ++ (decimal placed ++ (codes " closed " ++ decimal shut))
+answer_text (Collected changes frames cut) =
+    codes "changes " ++ (decimal changes ++ (codes " frames " ++ decimal frames))
+answer_text (Began placed shut) =
+    codes "placed " ++ (decimal placed ++ (codes " closed " ++ decimal shut))
 answer_text (Won sub) = codes "won " ++ sub_text sub
 answer_text Lost = codes "lost"
 answer_text Nobody = codes "nobody"
@@ -45,7 +48,9 @@ outcome_text (Done answer) = answer_text answer
 -- one line for each event, with its number, where so many were before
 abbrev pub outcome_lines : ℕ → List Outcome → List (List ℕ)
 outcome_lines before [] = []
-outcome_lines before (outcome ∷ outcomes) = (decimal (suc before) ++ (codes " " ++ outcome_text outcome)) ∷ outcome_lines (suc before) outcomes
+outcome_lines before (outcome ∷ outcomes) =
+    (decimal (suc before) ++ (codes " " ++ outcome_text outcome))
+    ∷ outcome_lines (suc before) outcomes
 
 -- ---- and behind them what was placed, and how many events and placements there were
 
@@ -57,7 +62,10 @@ abbrev pub name_at : Cluster → ℕ → List ℕ
 name_at c n = or_nothing (slice_get c.names n)
 
 abbrev pub is_life : LifeId → Life → Bool
-is_life id life = nat_eq life.id.node id.node && (nat_eq life.id.inc id.inc && (nat_eq life.id.sub.shard id.sub.shard && nat_eq life.id.sub.serial id.sub.serial))
+is_life id life =
+    nat_eq life.id.node id.node
+    && (nat_eq life.id.inc id.inc
+    && (nat_eq life.id.sub.shard id.sub.shard && nat_eq life.id.sub.serial id.sub.serial))
 
 abbrev pub sid_of : List Life → LifeId → List ℕ
 sid_of lives id = or_nothing (option_map (λ (life : Life). life.sid) (find (is_life id) lives))
@@ -73,14 +81,20 @@ fields (field ∷ more) = codes " " ++ (field ++ fields more)
 
 abbrev pub placement_line : Cluster → List Life → Placement → List ℕ
 placement_line c lives p =
-    codes "placed" ++ fields (decimal p.step ∷ p.id.origin ∷ decimal p.id.inc ∷ decimal p.id.number ∷ name_at c p.life.node ∷ decimal p.conn ∷ sid_of lives p.life ∷ mode_text p.mode ∷ [])
+    codes "placed"
+    ++ fields (decimal p.step ∷ p.id.origin ∷ decimal p.id.inc ∷ decimal p.id.number
+    ∷ name_at c p.life.node ∷ decimal p.conn ∷ sid_of lives p.life ∷ mode_text p.mode ∷ [])
 
 abbrev pub last_lines : Cluster → World → List (List ℕ)
-last_lines c w = map (placement_line c w.lives) w.placements ++ (codes "end" ++ fields (decimal w.step ∷ decimal (length w.placements) ∷ [])) ∷ []
+last_lines c w =
+    map (placement_line c w.lives) w.placements
+    ++ (codes "end" ++ fields (decimal w.step ∷ decimal (length w.placements) ∷ [])) ∷ []
 
 -- all that is written of a run from the start, with these outcomes and to this world
 abbrev pub run_lines : Cluster → List Outcome → World → List (List ℕ)
 run_lines c outcomes w = outcome_lines 0 outcomes ++ last_lines c w
 
 abbrev pub lines_of : Cluster → List Event → List (List ℕ)
-lines_of c events = run_lines c (outcomes_of_events c (new_world c) events) (world_after_events c (new_world c) events)
+lines_of c events =
+    run_lines c (outcomes_of_events c (new_world c) events)
+    (world_after_events c (new_world c) events)

@@ -26,7 +26,11 @@ ghost use Rattle.world_law.specs.Scripts.{ARestart, TwoShards, AFullWindow, ALow
 /// put: whatever a step puts, for whichever subscriptions, is what that step places,
 /// so that no run is left out.
 pub fn publications_are_placed_once()
-    ensures once { (c : Cluster) → IsCluster c → (events : List Event) (w : World) → Run c (new_world c) events w → Headline w }
+    ensures once { (c : Cluster)
+        → IsCluster c
+        → (events : List Event) (w : World)
+        → Run c (new_world c) events w
+        → Headline w }
     ensures puts { PutsArePlaced }
 {
     shard_core::entries_are_put();
@@ -37,7 +41,11 @@ pub fn publications_are_placed_once()
 
 /// Of the same runs: no two publications have one name, nor two subscriptions, over all servers and incarnations.
 pub fn names_are_unique()
-    ensures { (c : Cluster) → IsCluster c → (events : List Event) (w : World) → Run c (new_world c) events w → Names w }
+    ensures { (c : Cluster)
+        → IsCluster c
+        → (events : List Event) (w : World)
+        → Run c (new_world c) events w
+        → Names w }
 {
     shard_core::entries_are_put();
     node_law::servers_follow_the_law();
@@ -48,7 +56,11 @@ pub fn names_are_unique()
 /// Of the same runs: each server that is up is sound. In each of its shards the job in hand is that of the next turn, the
 /// jobs that wait follow turn by turn up to the last one issued, and no shard is more than a window behind.
 pub fn servers_are_sound()
-    ensures { (c : Cluster) → IsCluster c → (events : List Event) (w : World) → Run c (new_world c) events w → EachUp (λ n a. SoundNode (server_at c n a.inc) a.node) w }
+    ensures { (c : Cluster)
+        → IsCluster c
+        → (events : List Event) (w : World)
+        → Run c (new_world c) events w
+        → EachUp (λ n a. SoundNode (server_at c n a.inc) a.node) w }
 {
     shard_core::entries_are_put();
     node_law::servers_follow_the_law();
@@ -90,7 +102,10 @@ pub fn new_worlds_are_carried()
 
 /// Each step keeps it.
 pub fn steps_keep_worlds_carried()
-    ensures { (c : Cluster) (w : World) (e : Event) (outcome : Outcome) (w' : World) → WorldStep c w e outcome w' → Carried c w → Carried c w' }
+    ensures { (c : Cluster) (w : World) (e : Event) (outcome : Outcome) (w' : World)
+        → WorldStep c w e outcome w'
+        → Carried c w
+        → Carried c w' }
 {}
 
 /// It says the headline, where no two servers have one name; and so it says whatever holds of every run.
@@ -110,14 +125,21 @@ pub fn carried_worlds_rest_on_this()
 /// Each event has a step in every world where no server's race has a win in a turn that is not issued: the step of the
 /// program on lists, with the outcome that it tells. So no rule contradicts another, and each event is refused or done.
 pub fn each_event_has_a_step()
-    ensures { (c : Cluster) (w : World) (e : Event) → EachUp (λ n a. NoneAhead a.node.race) w → WorldStep c w e (outcome c w e) (next c w e) }
+    ensures { (c : Cluster) (w : World) (e : Event)
+        → EachUp (λ n a. NoneAhead a.node.race) w
+        → WorldStep c w e (outcome c w e) (next c w e) }
 {
     shard_core::entries_are_put()
 }
 
 /// Every world that a run reaches is one of those.
 pub fn each_event_goes_on()
-    ensures { (c : Cluster) → IsCluster c → (events : List Event) (w : World) → Run c (new_world c) events w → (e : Event) → WorldStep c w e (outcome c w e) (next c w e) }
+    ensures { (c : Cluster)
+        → IsCluster c
+        → (events : List Event) (w : World)
+        → Run c (new_world c) events w
+        → (e : Event)
+        → WorldStep c w e (outcome c w e) (next c w e) }
 {
     shard_core::entries_are_put();
     node_law::servers_follow_the_law();
@@ -126,7 +148,11 @@ pub fn each_event_goes_on()
 
 /// So every list of events is a run, with the outcomes that the program on lists tells and to the world that it ends in.
 pub fn every_list_is_a_run()
-    ensures { (c : Cluster) → IsCluster c → (events : List Event) → Answers c (new_world c) events (outcomes_of_events c (new_world c) events) (world_after_events c (new_world c) events) }
+    ensures { (c : Cluster)
+        → IsCluster c
+        → (events : List Event)
+        → Answers c (new_world c) events (outcomes_of_events c (new_world c) events)
+        (world_after_events c (new_world c) events) }
 {
     shard_core::entries_are_put();
     node_law::servers_follow_the_law();
@@ -135,7 +161,9 @@ pub fn every_list_is_a_run()
 
 /// Of every run: each frame that a take from a peer gives was sent, so it is one of those that may be handed over.
 pub fn taken_frames_were_sent()
-    ensures { (c : Cluster) (events : List Event) (w : World) → Run c (new_world c) events w → AreSent w }
+    ensures { (c : Cluster) (events : List Event) (w : World)
+        → Run c (new_world c) events w
+        → AreSent w }
 {}
 
 /// Of every step of a server: what stands new in an outbox, behind what waited, is just what the event puts there, in

@@ -12,12 +12,16 @@ use Rattle.claim_cells.specs.Rule.{At, Has, Law, Words, Seated, Kept, row, newco
 use Rattle.claim_cells.proofs.Rules.Lists.{un_some}
 
 zeros : (n i : ℕ) → slice_index (replicate n 0) i ≡ 0
-zeros n i = dite (dec_le n i) (λ le. get_or-eq_default (replicate n 0) 0 (subst (λ (k : ℕ). k ≤ i) (sym (length-replicate n 0)) le)) (λ gt. get_or-replicate n i 0 0 (lt_of_not-le gt))
+zeros n i =
+    dite (dec_le n i)
+    (λ le. get_or-eq_default (replicate n 0) 0 (subst (λ (k : ℕ). k ≤ i) (sym (length-replicate n 0)) le))
+    (λ gt. get_or-replicate n i 0 0 (lt_of_not-le gt))
 
 newcomer_at : (s n i : ℕ) (p : ShardPart) → At (newcomers s n) i p → (p ≡ newcomer (s + i)) × (i < n)
 newcomer_at s zero i p e = absurd (some-ne-none p (sym e))
 newcomer_at s (suc n) zero p e = (sym (some-injective (newcomer s) p e) ∙ ap newcomer (omega arith), omega arith)
-newcomer_at s (suc n) (suc i) p e = let t = newcomer_at (suc s) n i p e in (t.0 ∙ ap newcomer (omega arith), (let k = t.1 in omega arith))
+newcomer_at s (suc n) (suc i) p e =
+    let t = newcomer_at (suc s) n i p e in (t.0 ∙ ap newcomer (omega arith), (let k = t.1 in omega arith))
 
 pub newcomers_length : (s n : ℕ) → length (newcomers s n) ≡ n
 newcomers_length s zero = refl
@@ -48,7 +52,9 @@ module _ (limit window names count : ℕ) where
     others = λ s p pair e h. none_has pair (subst (λ (p : ShardPart). Has p.lost pair) (is_new s p e) h);
   }
 
-  said : (words : List ℕ) → words ≡ replicate (count + 1 + window * names) 0 → Words window names count words fresh_hub (newcomers 1 count)
+  said : (words : List ℕ)
+      → words ≡ replicate (count + 1 + window * names) 0
+      → Words window names count words fresh_hub (newcomers 1 count)
   said words is = record {
     width = ap length is ∙ length-replicate (count + 1 + window * names) 0;
     shards = newcomers_length 1 count;
@@ -65,12 +71,19 @@ module _ (limit window names count : ℕ) where
   seated = record {
     place = λ s. (0, s);
     desk = 0;
-    shards = λ j i w p e k. let one = one_view (whole_view count) w j e in let k' : At (newcomers 1 count) i p = subst (λ (u : View). At u.shards i p) (sym one.1) k in let is : row p ≡ i = (let a = ap (λ (p : ShardPart). p.shard) (is_new i p k') in omega arith) in
+    shards = λ j i w p e k.
+        let one = one_view (whole_view count) w j e in
+        let k' : At (newcomers 1 count) i p = subst (λ (u : View). At u.shards i p) (sym one.1) k in
+        let is : row p ≡ i = (let a = ap (λ (p : ShardPart). p.shard) (is_new i p k') in omega arith) in
         (subst (λ (s : ℕ). At (newcomers 1 count) s p) (sym is) k', λ m. (sym one.0 m, is m));
-    hubs = λ j w h e is. let one = one_view (whole_view count) w j e in (sym (un_some fresh_hub h (ap (λ (u : View). u.hub) one.1 ∙ is)), one.0);
+    hubs = λ j w h e is.
+        let one = one_view (whole_view count) w j e in
+        (sym (un_some fresh_hub h (ap (λ (u : View). u.hub) one.1 ∙ is)), one.0);
     each = λ s p e. (whole_view count, refl, e);
     one = (whole_view count, refl, refl);
   }
 
-  pub opens : (S : Type 0) (words : List ℕ) → words ≡ replicate (count + 1 + window * names) 0 → Kept {S = S} limit window names count (opening words [] (whole_view count))
+  pub opens : (S : Type 0) (words : List ℕ)
+      → words ≡ replicate (count + 1 + window * names) 0
+      → Kept {S = S} limit window names count (opening words [] (whole_view count))
   opens S words is = (fresh_hub, newcomers 1 count, law, said words is, seated)

@@ -16,7 +16,10 @@ later a b n low = grind (arith, nat_tests)
 
 -- a shard that stands in the list has the turn that stands there
 pub turn_there : (turns : List ℕ) (k : ℕ) → k < length turns → finished_turn turns (k + 1) ≡ get_or turns k 0
-turn_there turns k low = later (k + 1) 0 (unwrap_or (slice_get turns (k + 1 - 1)) 0) (omega arith) ∙ ap (λ (i : ℕ). unwrap_or (slice_get turns i) 0) {x = k + 1 - 1} {y = k} (omega arith) ∙ ap (λ (o : Option ℕ). unwrap_or o 0) (slice_get-get_or turns k 0 low)
+turn_there turns k low =
+    later (k + 1) 0 (unwrap_or (slice_get turns (k + 1 - 1)) 0) (omega arith)
+    ∙ ap (λ (i : ℕ). unwrap_or (slice_get turns i) 0) {x = k + 1 - 1} {y = k} (omega arith)
+    ∙ ap (λ (o : Option ℕ). unwrap_or o 0) (slice_get-get_or turns k 0 low)
 
 pub is_far : (issued n : ℕ) → n + WINDOW < issued + 1 → is_behind issued n ≡ true
 is_far issued n far = grind (arith, nat_tests)
@@ -46,17 +49,30 @@ module _ (issued : ℕ) (turns : List ℕ) where
 
   pub none_behind : Near (length turns) → busy_of issued turns ≡ None
   unfolding busy_of
-  none_behind near = ap (option_map (busy_at turns)) (none (position_or_len (is_behind issued) turns) (length turns)
-      (let e = position_or_len_is (is_behind issued) turns (length turns) 0 (omega arith) near (λ lt. absurd (omega arith)) in omega arith))
+  none_behind near =
+      ap (option_map (busy_at turns))
+      (none (position_or_len (is_behind issued) turns) (length turns)
+      (let e =
+      position_or_len_is (is_behind issued) turns (length turns) 0 (omega arith) near (λ lt. absurd (omega arith)) in
+      omega arith))
 
-  pub first_behind : (k : ℕ) → k < length turns → Near k → is_behind issued (get_or turns k 0) ≡ true → busy_of issued turns ≡ Some (record { shard = k + 1; finished = get_or turns k 0 })
+  pub first_behind : (k : ℕ)
+      → k < length turns
+      → Near k
+      → is_behind issued (get_or turns k 0) ≡ true
+      → busy_of issued turns ≡ Some (record { shard = k + 1; finished = get_or turns k 0 })
   unfolding busy_of
-  first_behind k low near far = let e : position_or_len (is_behind issued) turns ≡ k = position_or_len_is (is_behind issued) turns k 0 (omega arith) near (λ _. far) in
-      ap (option_map (busy_at turns)) (ap (λ n. cond (nat_lt n (length turns)) (Some n) None) e ∙ found k (length turns) low)
+  first_behind k low near far =
+      let e : position_or_len (is_behind issued) turns ≡ k =
+      position_or_len_is (is_behind issued) turns k 0 (omega arith) near (λ _. far) in
+      ap (option_map (busy_at turns))
+      (ap (λ n. cond (nat_lt n (length turns)) (Some n) None) e ∙ found k (length turns) low)
 
   pub room : busy_of issued turns ≡ None → (k : ℕ) → k < length turns → issued + 1 ≤ get_or turns k 0 + WINDOW
   unfolding busy_of
-  room is k low = let past : length turns ≤ position_or_len (is_behind issued) turns = not_found _ _ (unmapped (busy_at turns) (position (is_behind issued) turns) is) in
+  room is k low =
+      let past : length turns ≤ position_or_len (is_behind issued) turns =
+      not_found _ _ (unmapped (busy_at turns) (position (is_behind issued) turns) is) in
       not_behind issued _ (fails_before_first (is_behind issued) turns k 0 (omega arith))
 
 abbrev pub NearSome : ℕ → List ℕ → ℕ → Type 0
@@ -73,13 +89,30 @@ module _ (issued shards : ℕ) (turns : List ℕ) (long : shards ≤ length turn
   same : (k : ℕ) → k < shards → get_or some_of k 0 ≡ finished_turn turns (k + 1)
   same k low = get_or-take shards turns k 0 low ∙ sym (turn_there turns k (omega arith))
 
-  pub near_more : (n : ℕ) → NearSome issued turns n → is_behind issued (finished_turn turns (n + 1)) ≡ false → NearSome issued turns (n + 1)
-  near_more n near this k low = elim (nat_eq k n) as (λ b. nat_eq k n ≡ b → is_behind issued (finished_turn turns (k + 1)) ≡ false)
-      [ true ↦ λ e. ap (λ (i : ℕ). is_behind issued (finished_turn turns (i + 1))) {x = k} {y = n} (grind (arith, nat_tests)) ∙ this | false ↦ λ e. near k (grind (arith, nat_tests)) ] refl
+  pub near_more : (n : ℕ)
+      → NearSome issued turns n
+      → is_behind issued (finished_turn turns (n + 1)) ≡ false
+      → NearSome issued turns (n + 1)
+  near_more n near this k low =
+      elim (nat_eq k n) as (λ b. nat_eq k n ≡ b → is_behind issued (finished_turn turns (k + 1)) ≡ false) [
+        | true ↦ λ e.
+            ap (λ (i : ℕ). is_behind issued (finished_turn turns (i + 1))) {x = k} {y = n} (grind (arith, nat_tests))
+            ∙ this
+        | false ↦ λ e. near k (grind (arith, nat_tests))
+      ] refl
 
   pub none_of_some : NearSome issued turns shards → busy_of issued some_of ≡ None
-  none_of_some near = none_behind issued some_of (λ k low. let low' : k < shards = (let e = counted in omega arith) in ap (is_behind issued) (same k low') ∙ near k low')
+  none_of_some near =
+      none_behind issued some_of (λ k low.
+      let low' : k < shards = (let e = counted in omega arith) in ap (is_behind issued) (same k low') ∙ near k low')
 
-  pub first_of_some : (k : ℕ) → k < shards → NearSome issued turns k → is_behind issued (finished_turn turns (k + 1)) ≡ true → busy_of issued some_of ≡ Some (record { shard = k + 1; finished = finished_turn turns (k + 1) })
-  first_of_some k low near far = first_behind issued some_of k (let e = counted in omega arith) (λ i under. ap (is_behind issued) (same i (omega arith)) ∙ near i under) (ap (is_behind issued) (same k low) ∙ far)
+  pub first_of_some : (k : ℕ)
+      → k < shards
+      → NearSome issued turns k
+      → is_behind issued (finished_turn turns (k + 1)) ≡ true
+      → busy_of issued some_of ≡ Some (record { shard = k + 1; finished = finished_turn turns (k + 1) })
+  first_of_some k low near far =
+      first_behind issued some_of k (let e = counted in omega arith)
+      (λ i under. ap (is_behind issued) (same i (omega arith)) ∙ near i under)
+      (ap (is_behind issued) (same k low) ∙ far)
       ∙ ap (λ (n : ℕ). let busy : Option Busy = Some (record { shard = k + 1; finished = n }) in busy) (same k low)

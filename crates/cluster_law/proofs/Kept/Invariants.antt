@@ -1,4 +1,5 @@
--- What holds of each world that is reached. Each clause speaks of one node and the histories, or of two entries of one history.
+-- What holds of each world that is reached. Each clause speaks of one node and the histories, or of two entries of one
+-- history.
 use Rattle.std.specs.Prelude.{◌≡◌, ◌≢◌, ◌⊎◌, ℕ, suc, ◌+◌, ◌<◌, ◌≤◌, true, List, [], length, slice_get, Option, Some, None}
 use Rattle.list_laws.specs.Lists.{In, Each, Pairs, NoRepeat, Disjoint}
 use Rattle.cluster_law.specs.Names.{Bytes, PubId}
@@ -47,7 +48,8 @@ pub record Remote (sent : List Routed) (j : Job) : Type 0 where
   pub to_inc : frame.to_inc ≡ j.inc
   pub names : frame.names ≡ j.names
 
-pub record JobOk (limit : ℕ) (publications : List Publication) (starts : List (ℕ × ℕ)) (sent : List Routed) (j : Job) : Type 0 where
+pub record JobOk (limit : ℕ) (publications : List Publication) (starts : List (ℕ × ℕ)) (sent : List Routed) (j : Job) :
+    Type 0 where
   pub published : HasPublication publications j.id j.content
   pub once : NoRepeat j.names
   pub few : length j.names ≤ limit
@@ -57,7 +59,11 @@ pub record JobOk (limit : ℕ) (publications : List Publication) (starts : List 
 -- older and newer
 pub record JobsApart (i j : Job) : Type 0 where
   pub turn : i.node ≡ j.node → i.inc ≡ j.inc → i.turn < j.turn
-  pub number : i.node ≡ j.node → i.inc ≡ j.inc → i.id.origin ≡ j.id.origin → i.id.inc ≡ j.id.inc → i.id.number < j.id.number
+  pub number : i.node ≡ j.node
+      → i.inc ≡ j.inc
+      → i.id.origin ≡ j.id.origin
+      → i.id.inc ≡ j.id.inc
+      → i.id.number < j.id.number
   pub names : i.id ≡ j.id → Disjoint i.names j.names
   pub node : i.id ≡ j.id → i.node ≢ j.node
 
@@ -69,11 +75,14 @@ abbrev pub Passed : Peer → PubId → Type 0
 Passed p id = (id.inc < p.seen) ⊎ ((id.inc ≡ p.seen) × (id.number ≤ p.mark))
 
 -- of a node that is up
-pub record HubIs (starts : List (ℕ × ℕ)) (publications : List Publication) (jobs : List Job) (n inc : ℕ) (hub : Hub) (issued : ℕ) : Type 0 where
+pub record HubIs (starts : List (ℕ × ℕ)) (publications : List Publication) (jobs : List Job) (n inc : ℕ) (hub : Hub)
+    (issued : ℕ) : Type 0 where
   pub started : In (n, inc) starts
   pub numbers : Each (λ p. p.id.origin ≡ n → p.id.inc ≡ inc → p.id.number ≤ hub.published) publications
   pub turns : Each (λ j. j.node ≡ n → j.inc ≡ inc → j.turn ≤ issued) jobs
-  pub marks : (o : ℕ) (p : Peer) → slice_get hub.peers o ≡ Some p → Each (λ j. j.node ≡ n → j.inc ≡ inc → o ≢ n → j.id.origin ≡ o → Passed p j.id) jobs
+  pub marks : (o : ℕ) (p : Peer)
+      → slice_get hub.peers o ≡ Some p
+      → Each (λ j. j.node ≡ n → j.inc ≡ inc → o ≢ n → j.id.origin ≡ o → Passed p j.id) jobs
 
 abbrev pub HubOk : World → ℕ → Node → Type 0
 HubOk w n a = HubIs w.past.started w.past.publications w.past.jobs n a.inc a.hub a.race.issued
@@ -98,7 +107,8 @@ pub record ForJob (jobs : List Job) (p : Placement) : Type 0 where
   pub id : job.id ≡ p.id
   pub named : (name : Bytes) → p.mode ≡ Some name → In name job.names
 
-pub record IsPlaced (c : Config) (step : ℕ) (publications : List Publication) (jobs : List Job) (lives : List Life) (closings : List Closing) (p : Placement) : Type 0 where
+pub record IsPlaced (c : Config) (step : ℕ) (publications : List Publication) (jobs : List Job) (lives : List Life)
+    (closings : List Closing) (p : Placement) : Type 0 where
   pub for_job : ForJob jobs p
   pub published : IsPublished publications p
   pub owed : IsOwed c lives closings p
@@ -144,24 +154,50 @@ pub record LineIs (jobs : List Job) (n inc issued finished : ℕ) (hand : Option
   pub reached : begun hand finished ≤ issued
 
 -- what the histories say of a shard
-pub record ShardIs (window : ℕ) (jobs : List Job) (lives : List Life) (closings : List Closing) (placements : List Placement) (n inc issued : ℕ) (s : ℕ) (sh : Shard) : Type 0 where
+pub record ShardIs (window : ℕ) (jobs : List Job) (lives : List Life) (closings : List Closing)
+    (placements : List Placement) (n inc issued : ℕ) (s : ℕ) (sh : Shard) : Type 0 where
   pub line : LineIs jobs n inc issued sh.finished sh.hand sh.waiting
   pub room : issued ≤ sh.finished + window
-  pub begun_all : (j : Job) (p : Placement) → In j jobs → In p placements → j.node ≡ n → j.inc ≡ inc → p.life.node ≡ n → p.life.inc ≡ inc → p.life.shard ≡ s → p.id ≡ j.id → j.turn ≤ begun sh.hand sh.finished
+  pub begun_all : (j : Job) (p : Placement)
+      → In j jobs
+      → In p placements
+      → j.node ≡ n
+      → j.inc ≡ inc
+      → p.life.node ≡ n
+      → p.life.inc ≡ inc
+      → p.life.shard ≡ s
+      → p.id ≡ j.id
+      → j.turn ≤ begun sh.hand sh.finished
   pub serials : Each (λ l. l.id.node ≡ n → l.id.inc ≡ inc → l.id.shard ≡ s → l.id.serial ≤ sh.serials) lives
   pub closed : Each (λ x. x.life.node ≡ n → x.life.inc ≡ inc → x.life.shard ≡ s → x.life.serial ≤ sh.serials) closings
   pub subscriptions : Each (SubscriptionOk lives closings n inc s) sh.subscriptions
   pub apart : Pairs (λ u v. u.serial ≢ v.serial) sh.subscriptions
 
 abbrev pub ShardOk : Config → World → ℕ → ℕ → ℕ → ℕ → Shard → Type 0
-ShardOk c w n inc issued s sh = ShardIs c.window w.past.jobs w.past.lives w.past.closings w.past.placements n inc issued s sh
+ShardOk c w n inc issued s sh =
+    ShardIs c.window w.past.jobs w.past.lives w.past.closings w.past.placements n inc issued s sh
 
 -- what was placed for a queue name, was won: over the window
 abbrev pub WonAll : ℕ → List Job → List Placement → ℕ → ℕ → ℕ → List (ℕ × ℕ) → Type 0
-WonAll window jobs placements n inc issued won = (j : Job) (p : Placement) (x : ℕ) (q : Bytes) → In j jobs → In p placements → j.node ≡ n → j.inc ≡ inc → p.life.node ≡ n → p.life.inc ≡ inc → p.id ≡ j.id → p.mode ≡ Some q → slice_get j.names x ≡ Some q → issued < j.turn + window → In (j.turn, x) won
+WonAll window jobs placements n inc issued won =
+    (j : Job) (p : Placement) (x : ℕ) (q : Bytes)
+    → In j jobs
+    → In p placements
+    → j.node ≡ n
+    → j.inc ≡ inc
+    → p.life.node ≡ n
+    → p.life.inc ≡ inc
+    → p.id ≡ j.id
+    → p.mode ≡ Some q
+    → slice_get j.names x ≡ Some q
+    → issued < j.turn + window
+    → In (j.turn, x) won
 
-pub record NodeIs (window : ℕ) (jobs : List Job) (lives : List Life) (closings : List Closing) (placements : List Placement) (n inc : ℕ) (race : Race) (held : List Shard) : Type 0 where
-  pub shards : (s : ℕ) (sh : Shard) → slice_get held s ≡ Some sh → ShardIs window jobs lives closings placements n inc race.issued s sh
+pub record NodeIs (window : ℕ) (jobs : List Job) (lives : List Life) (closings : List Closing)
+    (placements : List Placement) (n inc : ℕ) (race : Race) (held : List Shard) : Type 0 where
+  pub shards : (s : ℕ) (sh : Shard)
+      → slice_get held s ≡ Some sh
+      → ShardIs window jobs lives closings placements n inc race.issued s sh
   pub won : WonAll window jobs placements n inc race.issued race.won
 
 abbrev pub NodeOk : Config → World → ℕ → Node → Type 0
@@ -186,7 +222,8 @@ Told follow changes number (Snapshot view) = (number ≤ length changes) × (vie
 
 abbrev pub FrameOk : Config → List (ℕ × ℕ) → List Noted → Frame → Type 0
 FrameOk c starts changes (Message m) = Unit {0}
-FrameOk c starts changes (Interest t) = In (t.origin, t.inc) starts × Told c.follow (changes_of changes t.origin t.inc) t.number t.body
+FrameOk c starts changes (Interest t) =
+    In (t.origin, t.inc) starts × Told c.follow (changes_of changes t.origin t.inc) t.number t.body
 FrameOk c starts changes (Greeting origin inc) = In (origin, inc) starts
 
 pub record InterestIs (c : Config) (past : History) (n inc : ℕ) (hub : Hub) : Type 0 where

@@ -19,8 +19,18 @@ for_plain = routed 1 2 1 []
 
 abbrev script : List Line
 script =
-    Starts 0 1 ∷ Starts 1 1 ∷ Tells 1 [] (Greeting 1 1) ∷ Greets 0 0 1 1 ∷ Opens 1 0 (Some workers) ∷ Opens 1 1 None ∷ Sends 0 [] (for_member ∷ []) [] ∷ Sends 0 [] (for_plain ∷ []) [] ∷ Takes 1 1 for_member (new_peer 1)
-    ∷ Begins 1 0 [] ∷ Wins 1 0 workers member ∷ Begins 1 1 (plain ∷ []) ∷ []
+    Starts 0 1
+    ∷ Starts 1 1
+    ∷ Tells 1 [] (Greeting 1 1)
+    ∷ Greets 0 0 1 1
+    ∷ Opens 1 0 (Some workers)
+    ∷ Opens 1 1 None
+    ∷ Sends 0 [] (for_member ∷ []) []
+    ∷ Sends 0 [] (for_plain ∷ []) []
+    ∷ Takes 1 1 for_member (new_peer 1)
+    ∷ Begins 1 0 []
+    ∷ Wins 1 0 workers member
+    ∷ Begins 1 1 (plain ∷ []) ∷ []
 
 abbrev restart : List Line
 restart = Stops 1 ∷ Starts 1 2 ∷ []
@@ -45,17 +55,51 @@ script_legal = (
           (
             ((refl, refl), refl),
             (
-              ((refl, refl), (λ s d e. omega arith), same_won small 1 [], none_twice, omega arith, only (RoutedOf 0 _ _) for_member (of_publication _ _ for_member refl refl refl refl refl (one_name workers)), ((λ y i. absurd i), tt), (λ f i. none_shared f.names)),
               (
-                ((refl, refl), (λ s d e. omega arith), same_won small 2 [], none_twice, omega arith, only (RoutedOf 0 _ _) for_plain (of_publication _ _ for_plain refl refl refl refl refl none_twice), ((λ y i. absurd i), tt), (λ f i. none_shared f.names)),
+                (refl, refl),
+                (λ s d e. omega arith),
+                same_won small 1 [],
+                none_twice,
+                omega arith,
+                only (RoutedOf 0 _ _) for_member
+                    (of_publication _ _ for_member refl refl refl refl refl (one_name workers)),
+                ((λ y i. absurd i), tt),
+                (λ f i. none_shared f.names),
+              ),
+              (
                 (
-                  ((refl, refl), refl, (λ s d e. omega arith), record { me = refl; my_inc = refl; other = λ e. absurd (omega arith) }, refl, inl ((λ e. absurd (omega arith)), omega arith, refl), omega arith),
+                  (refl, refl),
+                  (λ s d e. omega arith),
+                  same_won small 2 [],
+                  none_twice,
+                  omega arith,
+                  only (RoutedOf 0 _ _) for_plain (of_publication _ _ for_plain refl refl refl refl refl none_twice),
+                  ((λ y i. absurd i), tt),
+                  (λ f i. none_shared f.names),
+                ),
+                (
+                  (
+                    (refl, refl),
+                    refl,
+                    (λ s d e. omega arith),
+                    record { me = refl; my_inc = refl; other = λ e. absurd (omega arith) },
+                    refl,
+                    inl ((λ e. absurd (omega arith)), omega arith, refl),
+                    omega arith,
+                  ),
                   (
                     (((refl, refl), refl), refl, refl, refl, (λ u i. absurd i), tt),
                     (
                       (((refl, refl), refl), refl, refl, (λ i. i), inl refl, refl, refl),
                       (
-                        (((refl, refl), refl), refl, refl, refl, owed_plain two_nodes _ _ plain (inl refl) refl refl, ((λ y i. absurd i), tt)),
+                        (
+                          ((refl, refl), refl),
+                          refl,
+                          refl,
+                          refl,
+                          owed_plain two_nodes _ _ plain (inl refl) refl refl,
+                          ((λ y i. absurd i), tt),
+                        ),
                         tt,
                       ),
                     ),
@@ -74,18 +118,30 @@ restart_legal : AreLegal every_rule two_nodes placed restart
 restart_legal = (
   (refl, refl),
   (
-    (refl, refl, omega arith, other_node 1 2 0 1 ((1, 1) ∷ []) (λ e. absurd (omega arith)) (other_inc 1 2 1 1 [] (λ e. absurd (omega arith)) (λ i. i))),
+    (
+      refl,
+      refl,
+      omega arith,
+      other_node 1 2 0 1 ((1, 1) ∷ []) (λ e. absurd (omega arith))
+          (other_inc 1 2 1 1 [] (λ e. absurd (omega arith)) (λ i. i)),
+    ),
     tt,
   ),
 )
 
 -- a message that the hub does not take is refused
-refused : (w : World) (n k : ℕ) (m : Routed) (a : Node) → slice_get w.past.sent k ≡ Some (Message m) → slice_get w.nodes n ≡ Some a → ((hub : Hub) → HubReceives every_rule n a.inc a.hub m hub → ⊥) → Refuses w (Hand n k)
+refused : (w : World) (n k : ℕ) (m : Routed) (a : Node)
+    → slice_get w.past.sent k ≡ Some (Message m)
+    → slice_get w.nodes n ≡ Some a
+    → ((hub : Hub) → HubReceives every_rule n a.inc a.hub m hub → ⊥)
+    → Refuses w (Hand n k)
 refused w n k m a sent at never w' h =
     let is : h.frame ≡ Message m = same_Some h.frame (Message m) (sym h.frame_is ∙ sent) in
-    let acts : Acts every_rule two_nodes w n (Receive (Message m)) w' = subst (λ (f : Frame). Acts every_rule two_nodes w n (Receive f) w') is h.acts in
+    let acts : Acts every_rule two_nodes w n (Receive (Message m)) w' =
+    subst (λ (f : Frame). Acts every_rule two_nodes w n (Receive f) w') is h.acts in
     let same : acts.before ≡ a = same_Some acts.before a (sym acts.before_is ∙ at) in
-    never acts.steps.hub (subst (λ (x : Node). HubReceives every_rule n x.inc x.hub m acts.steps.hub) same acts.steps.receives)
+    never acts.steps.hub
+    (subst (λ (x : Node). HubReceives every_rule n x.inc x.hub m acts.steps.hub) same acts.steps.receives)
 
 repeated : (hub : Hub) → HubReceives every_rule 1 1 (node placed 1).hub for_member hub → ⊥
 repeated hub r =
@@ -106,7 +162,15 @@ abbrev second : Line
 second = Takes 1 2 for_plain (record { seen = 1; mark = 1; heard = 0; view = [] })
 
 second_legal : IsLegal every_rule two_nodes placed second
-second_legal = ((refl, refl), refl, (λ s d e. omega arith), record { me = refl; my_inc = refl; other = λ e. absurd (omega arith) }, refl, inr (refl, refl), omega arith)
+second_legal = (
+  (refl, refl),
+  refl,
+  (λ s d e. omega arith),
+  record { me = refl; my_inc = refl; other = λ e. absurd (omega arith) },
+  refl,
+  inr (refl, refl),
+  omega arith,
+)
 
 pub witness : Witness
 witness = record {

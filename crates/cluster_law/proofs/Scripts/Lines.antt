@@ -31,7 +31,14 @@ abbrev pub peer : World → ℕ → ℕ → Peer
 peer w n o = nth (node w n).hub.peers o (new_peer 0)
 
 abbrev pub no_job : Job
-no_job = record { node = 0; inc = 0; turn = 0; id = record { origin = 0; inc = 0; number = 0 }; content = record { subject = []; reply = None; headers = None; payload = [] }; names = [] }
+no_job = record {
+  node = 0;
+  inc = 0;
+  turn = 0;
+  id = record { origin = 0; inc = 0; number = 0 };
+  content = record { subject = []; reply = None; headers = None; payload = [] };
+  names = [];
+}
 
 -- the job in hand
 abbrev pub in_hand : Option Job → Job
@@ -81,38 +88,106 @@ event_of (Wins n s name chosen) = At n (OnShard s Claim)
 event_of (Ends n s) = At n (OnShard s End)
 
 abbrev with_shard : World → ℕ → ℕ → Race → Shard → Output → World
-with_shard w n s race new out = world_with w n (record (node w n) { race = race; shards = set (node w n).shards s new }) out
+with_shard w n s race new out =
+    world_with w n (record (node w n) { race = race; shards = set (node w n).shards s new }) out
 
 abbrev with_job : World → ℕ → Hub → List (ℕ × ℕ) → Job → Output → World
-with_job w n hub won job out = world_with w n (record (node w n) { hub = hub; race = record { issued = suc (node w n).race.issued; won = won }; shards = map (shard_with_job job) (node w n).shards }) out
+with_job w n hub won job out =
+    world_with w n (record (node w n) {
+      hub = hub;
+      race = record { issued = suc (node w n).race.issued; won = won };
+      shards = map (shard_with_job job) (node w n).shards;
+    })
+    out
 
 abbrev with_peer : World → ℕ → ℕ → Peer → World
-with_peer w n origin known = world_with w n (record (node w n) { hub = record (node w n).hub { peers = set (node w n).hub.peers origin known } }) nothing
+with_peer w n origin known =
+    world_with w n (record (node w n) { hub = record (node w n).hub { peers = set (node w n).hub.peers origin known } })
+    nothing
 
 -- what the line makes of the world
 abbrev pub next : Config → World → Line → World
-next c w (Starts n inc) = record { nodes = set w.nodes n (new_node c inc); step = suc w.step; past = record w.past { started = w.past.started ++ (n, inc) ∷ [] } }
-next c w (Stops n) = world_with w n no_node (record nothing { closings = all_closings n (node w n).inc (suc w.step) 0 (node w n).shards })
-next c w (Tells n changes frame) = world_with w n (record (node w n) { hub = record (node w n).hub { changed = (node w n).hub.changed + length changes; interest = view_after c.follow changes (length changes) (node w n).hub.interest } }) (record nothing { frames = frame ∷ []; changes = map (note_of n (node w n).inc) changes })
+next c w (Starts n inc) = record {
+  nodes = set w.nodes n (new_node c inc);
+  step = suc w.step;
+  past = record w.past { started = w.past.started ++ (n, inc) ∷ [] };
+}
+next c w (Stops n) =
+    world_with w n no_node
+    (record nothing { closings = all_closings n (node w n).inc (suc w.step) 0 (node w n).shards })
+next c w (Tells n changes frame) =
+    world_with w n (record (node w n) {
+      hub = record (node w n).hub {
+        changed = (node w n).hub.changed + length changes;
+        interest = view_after c.follow changes (length changes) (node w n).hub.interest;
+      };
+    })
+    (record nothing { frames = frame ∷ []; changes = map (note_of n (node w n).inc) changes })
 next c w (Greets n k origin inc) = with_peer w n origin (new_peer inc)
 next c w (Hears n k news base view) = with_peer w n news.origin (record base { heard = news.number; view = view })
 next c w (Opens n s queue) =
-    with_shard w n s (node w n).race (record (shard w n s) { serials = suc (shard w n s).serials; subscriptions = (shard w n s).subscriptions ++ record { serial = suc (shard w n s).serials; connection = 1; sid = 1 ∷ []; pattern = 1 ∷ []; queue = queue } ∷ [] })
-    (record nothing { lives = record { id = life_id n (node w n).inc s (suc (shard w n s).serials); connection = 1; sid = 1 ∷ []; pattern = 1 ∷ []; queue = queue; opened = suc w.step } ∷ [] })
+    with_shard w n s (node w n).race
+    (record (shard w n s) {
+      serials = suc (shard w n s).serials;
+      subscriptions =
+          (shard w n s).subscriptions
+          ++ record {
+            serial = suc (shard w n s).serials;
+            connection = 1;
+            sid = 1 ∷ [];
+            pattern = 1 ∷ [];
+            queue = queue;
+          } ∷ [];
+    })
+    (record nothing {
+      lives =
+          record {
+            id = life_id n (node w n).inc s (suc (shard w n s).serials);
+            connection = 1;
+            sid = 1 ∷ [];
+            pattern = 1 ∷ [];
+            queue = queue;
+            opened = suc w.step;
+          } ∷ [];
+    })
 next c w (Shuts n s serial) =
-    with_shard w n s (node w n).race (record (shard w n s) { subscriptions = subs_without (serial ∷ []) (shard w n s).subscriptions }) (record nothing { closings = closings_of n (node w n).inc s (suc w.step) (serial ∷ []) })
+    with_shard w n s (node w n).race
+    (record (shard w n s) { subscriptions = subs_without (serial ∷ []) (shard w n s).subscriptions })
+    (record nothing { closings = closings_of n (node w n).inc s (suc w.step) (serial ∷ []) })
 next c w (Sends n names frames won) =
-    with_job w n (record (node w n).hub { published = suc (node w n).hub.published }) won (next_job n (node w n) (next_id n (node w n).inc (node w n).hub) hello names)
-    (record nothing { publications = next_publication n (suc w.step) (node w n) hello ∷ []; frames = map Message frames; jobs = next_job n (node w n) (next_id n (node w n).inc (node w n).hub) hello names ∷ [] })
+    with_job w n (record (node w n).hub { published = suc (node w n).hub.published }) won
+    (next_job n (node w n) (next_id n (node w n).inc (node w n).hub) hello names) (record nothing {
+      publications = next_publication n (suc w.step) (node w n) hello ∷ [];
+      frames = map Message frames;
+      jobs = next_job n (node w n) (next_id n (node w n).inc (node w n).hub) hello names ∷ [];
+    })
 next c w (Takes n k m base) =
-    with_job w n (record (node w n).hub { peers = set (node w n).hub.peers m.id.origin (record base { mark = m.id.number }) }) (node w n).race.won (next_job n (node w n) m.id m.content m.names) (record nothing { jobs = next_job n (node w n) m.id m.content m.names ∷ [] })
+    with_job w n
+    (record (node w n).hub { peers = set (node w n).hub.peers m.id.origin (record base { mark = m.id.number }) })
+    (node w n).race.won (next_job n (node w n) m.id m.content m.names)
+    (record nothing { jobs = next_job n (node w n) m.id m.content m.names ∷ [] })
 next c w (Begins n s placed) =
     let job = nth (shard w n s).waiting 0 no_job in
-    with_shard w n s (node w n).race (record (shard w n s) { hand = Some job; next = 0; waiting = rest_of (shard w n s).waiting; subscriptions = subs_without [] (shard w n s).subscriptions }) (record nothing { placements = map (placement n (node w n).inc s (suc w.step) job) placed })
+    with_shard w n s (node w n).race
+    (record (shard w n s) {
+      hand = Some job;
+      next = 0;
+      waiting = rest_of (shard w n s).waiting;
+      subscriptions = subs_without [] (shard w n s).subscriptions;
+    })
+    (record nothing { placements = map (placement n (node w n).inc s (suc w.step) job) placed })
 next c w (Wins n s name chosen) =
     let job = in_hand (shard w n s).hand in
-    with_shard w n s (record { issued = (node w n).race.issued; won = (job.turn, (shard w n s).next) ∷ (node w n).race.won }) (record (shard w n s) { next = suc (shard w n s).next; subscriptions = subs_without [] (shard w n s).subscriptions }) (record nothing { placements = placement n (node w n).inc s (suc w.step) job chosen ∷ [] })
-next c w (Ends n s) = with_shard w n s (node w n).race (record (shard w n s) { finished = suc (shard w n s).finished; hand = None; next = 0 }) nothing
+    with_shard w n s
+    (record { issued = (node w n).race.issued; won = (job.turn, (shard w n s).next) ∷ (node w n).race.won })
+    (record (shard w n s) {
+      next = suc (shard w n s).next;
+      subscriptions = subs_without [] (shard w n s).subscriptions;
+    })
+    (record nothing { placements = placement n (node w n).inc s (suc w.step) job chosen ∷ [] })
+next c w (Ends n s) =
+    with_shard w n s (node w n).race
+    (record (shard w n s) { finished = suc (shard w n s).finished; hand = None; next = 0 }) nothing
 
 -- the node is up
 abbrev IsUp : World → ℕ → Type 0
@@ -122,37 +197,107 @@ abbrev HasShard : World → ℕ → ℕ → Type 0
 HasShard w n s = IsUp w n × (slice_get (node w n).shards s ≡ Some (shard w n s))
 
 abbrev HasRoom : Rules → Config → World → ℕ → Type 0
-HasRoom rules c w n = Where rules.window ((s done : ℕ) → slice_get (finished_turns (node w n).shards) s ≡ Some done → suc (node w n).race.issued ≤ done + c.window)
+HasRoom rules c w n =
+    Where rules.window
+    ((s done : ℕ) → slice_get (finished_turns (node w n).shards) s ≡ Some done
+    → suc (node w n).race.issued ≤ done + c.window)
 
 -- what has to be so
 abbrev pub IsLegal : Rules → Config → World → Line → Type 0
-IsLegal rules c w (Starts n inc) = (slice_get w.nodes n ≡ Some (node w n)) × ((node w n).up ≡ false) × (0 < inc) × Where rules.fresh (In (n, inc) w.past.started → ⊥)
+IsLegal rules c w (Starts n inc) =
+    (slice_get w.nodes n ≡ Some (node w n))
+    × ((node w n).up ≡ false)
+    × (0 < inc)
+    × Where rules.fresh (In (n, inc) w.past.started → ⊥)
 IsLegal rules c w (Stops n) = IsUp w n
-IsLegal rules c w (Tells n changes frame) = IsUp w n × IsTold n (node w n).inc (node w n).hub changes (record (node w n).hub { changed = (node w n).hub.changed + length changes; interest = view_after c.follow changes (length changes) (node w n).hub.interest }) frame
-IsLegal rules c w (Greets n k origin inc) = IsUp w n × Where rules.sent (slice_get w.past.sent k ≡ Some (Greeting origin inc)) × (origin ≢ n) × (slice_get (node w n).hub.peers origin ≡ Some (peer w n origin)) × Known rules (peer w n origin) inc (new_peer inc)
-IsLegal rules c w (Hears n k t base view) = IsUp w n × Where rules.sent (slice_get w.past.sent k ≡ Some (Interest t)) × IsForMe rules n (node w n).inc t.to t.to_inc t.origin × (slice_get (node w n).hub.peers t.origin ≡ Some (peer w n t.origin)) × Known rules (peer w n t.origin) t.inc base × Taken rules c t.body t.number base.heard base.view view
+IsLegal rules c w (Tells n changes frame) =
+    IsUp w n
+    × IsTold n (node w n).inc (node w n).hub changes
+    (record (node w n).hub {
+      changed = (node w n).hub.changed + length changes;
+      interest = view_after c.follow changes (length changes) (node w n).hub.interest;
+    })
+    frame
+IsLegal rules c w (Greets n k origin inc) =
+    IsUp w n
+    × Where rules.sent (slice_get w.past.sent k ≡ Some (Greeting origin inc))
+    × (origin ≢ n)
+    × (slice_get (node w n).hub.peers origin ≡ Some (peer w n origin))
+    × Known rules (peer w n origin) inc (new_peer inc)
+IsLegal rules c w (Hears n k t base view) =
+    IsUp w n
+    × Where rules.sent (slice_get w.past.sent k ≡ Some (Interest t))
+    × IsForMe rules n (node w n).inc t.to t.to_inc t.origin
+    × (slice_get (node w n).hub.peers t.origin ≡ Some (peer w n t.origin))
+    × Known rules (peer w n t.origin) t.inc base
+    × Taken rules c t.body t.number base.heard base.view view
 IsLegal rules c w (Opens n s queue) = HasShard w n s
-IsLegal rules c w (Shuts n s serial) = HasShard w n s × (u : Subscription) × In u (shard w n s).subscriptions × (u.serial ≡ serial)
-IsLegal rules c w (Sends n names frames won) = IsUp w n × HasRoom rules c w n × KeptOver c.window (suc (node w n).race.issued) (node w n).race.won won × NoRepeat names × (length (names ++ flat_map (λ (f : Routed). f.names) frames) ≤ c.queue_names) × Each (RoutedOf n (node w n).hub (next_publication n (suc w.step) (node w n) hello)) frames × Pairs (λ f g. Where rules.one_frame (f.to ≢ g.to) × Where rules.apart (Disjoint f.names g.names)) frames × Each (λ f. Where rules.apart (Disjoint f.names names)) frames
-IsLegal rules c w (Takes n k m base) = IsUp w n × Where rules.sent (slice_get w.past.sent k ≡ Some (Message m)) × HasRoom rules c w n × IsForMe rules n (node w n).inc m.to m.to_inc m.id.origin × (slice_get (node w n).hub.peers m.id.origin ≡ Some (peer w n m.id.origin)) × Known rules (peer w n m.id.origin) m.id.inc base × Where rules.mark (base.mark < m.id.number)
-IsLegal rules c w (Begins n s placed) = HasShard w n s × ((shard w n s).hand ≡ None) × ((shard w n s).waiting ≡ nth (shard w n s).waiting 0 no_job ∷ rest_of (shard w n s).waiting) × ((nth (shard w n s).waiting 0 no_job).turn ≡ suc (shard w n s).finished) × Each (IsOwedPlain c (shard w n s) (nth (shard w n s).waiting 0 no_job)) placed × Where rules.once (Pairs (λ u v. u.serial ≢ v.serial) placed)
-IsLegal rules c w (Wins n s name chosen) = HasShard w n s × ((shard w n s).hand ≡ Some (in_hand (shard w n s).hand)) × (slice_get (in_hand (shard w n s).hand).names (shard w n s).next ≡ Some name) × Where rules.unwon (In ((in_hand (shard w n s).hand).turn, (shard w n s).next) (node w n).race.won → ⊥) × Where rules.member (In chosen (shard w n s).subscriptions) × (chosen.queue ≡ Some name) × (c.matches chosen.pattern (in_hand (shard w n s).hand).content.subject ≡ true)
-IsLegal rules c w (Ends n s) = HasShard w n s × ((shard w n s).hand ≡ Some (in_hand (shard w n s).hand)) × ((shard w n s).next ≡ length (in_hand (shard w n s).hand).names)
+IsLegal rules c w (Shuts n s serial) =
+    HasShard w n s × (u : Subscription) × In u (shard w n s).subscriptions × (u.serial ≡ serial)
+IsLegal rules c w (Sends n names frames won) =
+    IsUp w n
+    × HasRoom rules c w n
+    × KeptOver c.window (suc (node w n).race.issued) (node w n).race.won won
+    × NoRepeat names
+    × (length (names ++ flat_map (λ (f : Routed). f.names) frames) ≤ c.queue_names)
+    × Each (RoutedOf n (node w n).hub (next_publication n (suc w.step) (node w n) hello)) frames
+    × Pairs (λ f g. Where rules.one_frame (f.to ≢ g.to) × Where rules.apart (Disjoint f.names g.names)) frames
+    × Each (λ f. Where rules.apart (Disjoint f.names names)) frames
+IsLegal rules c w (Takes n k m base) =
+    IsUp w n
+    × Where rules.sent (slice_get w.past.sent k ≡ Some (Message m))
+    × HasRoom rules c w n
+    × IsForMe rules n (node w n).inc m.to m.to_inc m.id.origin
+    × (slice_get (node w n).hub.peers m.id.origin ≡ Some (peer w n m.id.origin))
+    × Known rules (peer w n m.id.origin) m.id.inc base
+    × Where rules.mark (base.mark < m.id.number)
+IsLegal rules c w (Begins n s placed) =
+    HasShard w n s
+    × ((shard w n s).hand ≡ None)
+    × ((shard w n s).waiting ≡ nth (shard w n s).waiting 0 no_job ∷ rest_of (shard w n s).waiting)
+    × ((nth (shard w n s).waiting 0 no_job).turn ≡ suc (shard w n s).finished)
+    × Each (IsOwedPlain c (shard w n s) (nth (shard w n s).waiting 0 no_job)) placed
+    × Where rules.once (Pairs (λ u v. u.serial ≢ v.serial) placed)
+IsLegal rules c w (Wins n s name chosen) =
+    HasShard w n s
+    × ((shard w n s).hand ≡ Some (in_hand (shard w n s).hand))
+    × (slice_get (in_hand (shard w n s).hand).names (shard w n s).next ≡ Some name)
+    × Where rules.unwon (In ((in_hand (shard w n s).hand).turn, (shard w n s).next) (node w n).race.won → ⊥)
+    × Where rules.member (In chosen (shard w n s).subscriptions)
+    × (chosen.queue ≡ Some name)
+    × (c.matches chosen.pattern (in_hand (shard w n s).hand).content.subject ≡ true)
+IsLegal rules c w (Ends n s) =
+    HasShard w n s
+    × ((shard w n s).hand ≡ Some (in_hand (shard w n s).hand))
+    × ((shard w n s).next ≡ length (in_hand (shard w n s).hand).names)
 
-few_of : (limit : ℕ) (names : List Bytes) (fs : List Routed) → length (names ++ flat_map (λ (f : Routed). f.names) fs) ≤ limit → (length names ≤ limit) × Each (λ f. length f.names ≤ limit) fs
-few_of limit names fs le = let sum = length-append names (flat_map (λ (f : Routed). f.names) fs) in (omega arith, in_each fs (omega arith))
+few_of : (limit : ℕ) (names : List Bytes) (fs : List Routed)
+    → length (names ++ flat_map (λ (f : Routed). f.names) fs) ≤ limit
+    → (length names ≤ limit) × Each (λ f. length f.names ≤ limit) fs
+few_of limit names fs le =
+    let sum = length-append names (flat_map (λ (f : Routed). f.names) fs) in (omega arith, in_each fs (omega arith))
   where
-    in_each : (fs : List Routed) → length (flat_map (λ (f : Routed). f.names) fs) ≤ limit → Each (λ f. length f.names ≤ limit) fs
+    in_each : (fs : List Routed)
+        → length (flat_map (λ (f : Routed). f.names) fs) ≤ limit
+        → Each (λ f. length f.names ≤ limit) fs
     in_each [] le = λ f i. absurd i
     in_each (f ∷ fs) le =
         let sum = length-append f.names (flat_map (λ (f : Routed). f.names) fs) in
-        λ g i. ⊎_elim (λ (e : g ≡ f). subst (λ (x : Routed). length x.names ≤ limit) (sym e) (omega arith)) (λ (k : In g fs). in_each fs (omega arith) g k) i
+        λ g i.
+        ⊎_elim (λ (e : g ≡ f). subst (λ (x : Routed). length x.names ≤ limit) (sym e) (omega arith))
+        (λ (k : In g fs). in_each fs (omega arith) g k) i
 
-one_open : (us : List Subscription) (u : Subscription) (serial : ℕ) → In u us → u.serial ≡ serial → Each (λ k. (v : Subscription) × In v us × (v.serial ≡ k)) (serial ∷ [])
+one_open : (us : List Subscription) (u : Subscription) (serial : ℕ)
+    → In u us
+    → u.serial ≡ serial
+    → Each (λ k. (v : Subscription) × In v us × (v.serial ≡ k)) (serial ∷ [])
 one_open us u serial i e k l = ⊎_elim (λ (same : k ≡ serial). (u, i, e ∙ sym same)) (λ (m : ⊥). absurd m) l
 
-pub is_event : (rules : Rules) (c : Config) (w : World) (l : Line) → IsLegal rules c w l → Happens rules c w (event_of l) (next c w l)
-is_event rules c w (Starts n inc) h = (record { before = node w n; before_is = h.0; was_down = h.1; some = h.2; fresh = h.3; after = refl })
+pub is_event : (rules : Rules) (c : Config) (w : World) (l : Line)
+    → IsLegal rules c w l
+    → Happens rules c w (event_of l) (next c w l)
+is_event rules c w (Starts n inc) h =
+    (record { before = node w n; before_is = h.0; was_down = h.1; some = h.2; fresh = h.3; after = refl })
 is_event rules c w (Stops n) h = (record { before = node w n; before_is = h.0; was_up = h.1; after = refl })
 is_event rules c w (Tells n changes frame) h = (
   tt,
@@ -163,7 +308,18 @@ is_event rules c w (Tells n changes frame) h = (
     out = _;
     new = _;
     after = refl;
-    steps = record { hub = _; frames = frame ∷ []; announces = record { told = λ f i. ⊎_elim (λ (e : f ≡ frame). subst (IsTold n (node w n).inc (node w n).hub changes _) (sym e) h.1) (λ (m : ⊥). absurd m) i; after = refl }; out_is = refl; after = refl };
+    steps = record {
+      hub = _;
+      frames = frame ∷ [];
+      announces = record {
+        told = λ f i.
+            ⊎_elim (λ (e : f ≡ frame). subst (IsTold n (node w n).inc (node w n).hub changes _) (sym e) h.1)
+            (λ (m : ⊥). absurd m) i;
+        after = refl;
+      };
+      out_is = refl;
+      after = refl;
+    };
   },
 )
 is_event rules c w (Greets n k origin inc) h = (record {
@@ -176,7 +332,21 @@ is_event rules c w (Greets n k origin inc) h = (record {
     out = _;
     new = _;
     after = refl;
-    steps = record { hub = _; meets = record { other = h.2; peer = peer w n origin; peer_is = h.3; base = new_peer inc; known = h.4; after = refl }; frames = []; told = λ f i. absurd i; out_is = refl; after = refl };
+    steps = record {
+      hub = _;
+      meets = record {
+        other = h.2;
+        peer = peer w n origin;
+        peer_is = h.3;
+        base = new_peer inc;
+        known = h.4;
+        after = refl;
+      };
+      frames = [];
+      told = λ f i. absurd i;
+      out_is = refl;
+      after = refl;
+    };
   };
 })
 is_event rules c w (Hears n k t base view) h = (record {
@@ -189,7 +359,21 @@ is_event rules c w (Hears n k t base view) h = (record {
     out = _;
     new = _;
     after = refl;
-    steps = record { hub = _; hears = record { for_me = h.2; peer = peer w n t.origin; peer_is = h.3; base = base; known = h.4; view = view; taken = h.5; after = refl }; out_is = refl; after = refl };
+    steps = record {
+      hub = _;
+      hears = record {
+        for_me = h.2;
+        peer = peer w n t.origin;
+        peer_is = h.3;
+        base = base;
+        known = h.4;
+        view = view;
+        taken = h.5;
+        after = refl;
+      };
+      out_is = refl;
+      after = refl;
+    };
   };
 })
 is_event rules c w (Opens n s queue) h = (
@@ -201,7 +385,14 @@ is_event rules c w (Opens n s queue) h = (
     out = _;
     new = _;
     after = refl;
-    steps = record { old = shard w n s; old_is = h.1; new = _; race = (node w n).race; steps = (record { out_is = refl; after = refl }, same_race c.window (node w n).race); after = refl };
+    steps = record {
+      old = shard w n s;
+      old_is = h.1;
+      new = _;
+      race = (node w n).race;
+      steps = (record { out_is = refl; after = refl }, same_race c.window (node w n).race);
+      after = refl;
+    };
   },
 )
 is_event rules c w (Shuts n s serial) h = (
@@ -218,7 +409,17 @@ is_event rules c w (Shuts n s serial) h = (
       old_is = h.0.1;
       new = _;
       race = (node w n).race;
-      steps = (record { are_open = record { each_open = one_open (shard w n s).subscriptions h.1 serial h.2 h.3; once = ((λ k i. absurd i), tt) }; out_is = refl; after = refl }, same_race c.window (node w n).race);
+      steps = (
+        record {
+          are_open = record {
+            each_open = one_open (shard w n s).subscriptions h.1 serial h.2 h.3;
+            once = ((λ k i. absurd i), tt);
+          };
+          out_is = refl;
+          after = refl;
+        },
+        same_race c.window (node w n).race,
+      );
       after = refl;
     };
   },
@@ -237,7 +438,15 @@ is_event rules c w (Sends n names frames won) h = (
       frames = frames;
       hub = _;
       race = record { issued = suc (node w n).race.issued; won = won };
-      publishes = record { once = h.3; few = (few_of c.queue_names names frames h.4).0; few_in_frame = (few_of c.queue_names names frames h.4).1; frames_of = h.5; frames_apart = h.6; job_apart = h.7; after = refl };
+      publishes = record {
+        once = h.3;
+        few = (few_of c.queue_names names frames h.4).0;
+        few_in_frame = (few_of c.queue_names names frames h.4).1;
+        frames_of = h.5;
+        frames_apart = h.6;
+        job_apart = h.7;
+        after = refl;
+      };
       issues = record { room = h.1; issued = refl; kept = h.2 };
       out_is = refl;
       after = refl;
@@ -257,7 +466,15 @@ is_event rules c w (Takes n k m base) h = (record {
     steps = record {
       hub = _;
       race = record { issued = suc (node w n).race.issued; won = (node w n).race.won };
-      receives = record { for_me = h.3; peer = peer w n m.id.origin; peer_is = h.4; base = base; known = h.5; above = h.6; after = refl };
+      receives = record {
+        for_me = h.3;
+        peer = peer w n m.id.origin;
+        peer_is = h.4;
+        base = base;
+        known = h.5;
+        above = h.6;
+        after = refl;
+      };
       issues = record { room = h.2; issued = refl; kept = λ t i lt. ((λ x. x), (λ x. x)) };
       out_is = refl;
       after = refl;
@@ -278,7 +495,23 @@ is_event rules c w (Begins n s placed) h = (
       old_is = h.0.1;
       new = _;
       race = (node w n).race;
-      steps = (record { free = h.1; job = _; rest = _; first = h.2; turn = h.3; placed = placed; owed = h.4; once = h.5; closed = []; are_open = record { each_open = λ k i. absurd i; once = tt }; out_is = refl; after = refl }, same_race c.window (node w n).race);
+      steps = (
+        record {
+          free = h.1;
+          job = _;
+          rest = _;
+          first = h.2;
+          turn = h.3;
+          placed = placed;
+          owed = h.4;
+          once = h.5;
+          closed = [];
+          are_open = record { each_open = λ k i. absurd i; once = tt };
+          out_is = refl;
+          after = refl;
+        },
+        same_race c.window (node w n).race,
+      );
       after = refl;
     };
   },
@@ -297,28 +530,36 @@ is_event rules c w (Wins n s name chosen) h = (
       old_is = h.0.1;
       new = _;
       race = _;
-      steps = inl (record {
-        job = in_hand (shard w n s).hand;
-        in_hand = h.1;
-        name = name;
-        name_is = h.2;
-        wins = record {
-          unwon = h.3;
-          issued = refl;
-          gains = λ t i lt. (
-            (λ x. ⊎_elim (λ (e : (t, i) ≡ ((in_hand (shard w n s).hand).turn, (shard w n s).next)). inr (ap (λ (y : ℕ × ℕ). y.0) e, ap (λ (y : ℕ × ℕ). y.1) e)) (λ (k : In (t, i) (node w n).race.won). inl k) x),
-            (λ x. ⊎_elim (λ (k : In (t, i) (node w n).race.won). inr k) (λ (e : (t ≡ (in_hand (shard w n s).hand).turn) × (i ≡ (shard w n s).next)). inl (λ j. (e.0 j, e.1 j))) x),
-          );
-        };
-        chosen = chosen;
-        is_open = h.4;
-        member = h.5;
-        matches = h.6;
-        closed = [];
-        are_open = record { each_open = λ k i. absurd i; once = tt };
-        out_is = refl;
-        after = refl;
-      });
+      steps =
+          inl (record {
+            job = in_hand (shard w n s).hand;
+            in_hand = h.1;
+            name = name;
+            name_is = h.2;
+            wins = record {
+              unwon = h.3;
+              issued = refl;
+              gains = λ t i lt. (
+                (λ x.
+                    ⊎_elim (λ (e : (t, i) ≡ ((in_hand (shard w n s).hand).turn, (shard w n s).next)).
+                    inr (ap (λ (y : ℕ × ℕ). y.0) e, ap (λ (y : ℕ × ℕ). y.1) e))
+                    (λ (k : In (t, i) (node w n).race.won). inl k) x),
+                (λ x.
+                    ⊎_elim (λ (k : In (t, i) (node w n).race.won). inr k)
+                    (λ (e : (t ≡ (in_hand (shard w n s).hand).turn) × (i ≡ (shard w n s).next)).
+                    inl (λ j. (e.0 j, e.1 j)))
+                    x),
+              );
+            };
+            chosen = chosen;
+            is_open = h.4;
+            member = h.5;
+            matches = h.6;
+            closed = [];
+            are_open = record { each_open = λ k i. absurd i; once = tt };
+            out_is = refl;
+            after = refl;
+          });
       after = refl;
     };
   },
@@ -332,7 +573,17 @@ is_event rules c w (Ends n s) h = (
     out = _;
     new = _;
     after = refl;
-    steps = record { old = shard w n s; old_is = h.0.1; new = _; race = (node w n).race; steps = (record { job = in_hand (shard w n s).hand; in_hand = h.1; all_tried = h.2; out_is = refl; after = refl }, same_race c.window (node w n).race); after = refl };
+    steps = record {
+      old = shard w n s;
+      old_is = h.0.1;
+      new = _;
+      race = (node w n).race;
+      steps = (
+        record { job = in_hand (shard w n s).hand; in_hand = h.1; all_tried = h.2; out_is = refl; after = refl },
+        same_race c.window (node w n).race,
+      );
+      after = refl;
+    };
   },
 )
 
@@ -344,9 +595,13 @@ abbrev pub AreLegal : Rules → Config → World → List Line → Type 0
 AreLegal rules c w [] = Unit {0}
 AreLegal rules c w (l ∷ ls) = IsLegal rules c w l × AreLegal rules c (next c w l) ls
 
-pub is_run : (rules : Rules) (c : Config) (w : World) (ls : List Line) → AreLegal rules c w ls → Run rules c w (map event_of ls) (play c w ls)
+pub is_run : (rules : Rules) (c : Config) (w : World) (ls : List Line)
+    → AreLegal rules c w ls
+    → Run rules c w (map event_of ls) (play c w ls)
 is_run rules c w [] h = refl
 is_run rules c w (l ∷ ls) h = (next c w l, inl (is_event rules c w l h.0), is_run rules c (next c w l) ls h.1)
 
-pub is_reached : (rules : Rules) (c : Config) (ls : List Line) → AreLegal rules c (begin c) ls → Reached rules c (play c (begin c) ls)
+pub is_reached : (rules : Rules) (c : Config) (ls : List Line)
+    → AreLegal rules c (begin c) ls
+    → Reached rules c (play c (begin c) ls)
 is_reached rules c ls h = record { events = map event_of ls; run = is_run rules c (begin c) ls h }

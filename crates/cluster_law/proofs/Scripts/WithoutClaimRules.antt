@@ -10,7 +10,9 @@ use Rattle.cluster_law.proofs.Scripts.Settings.{small, cluster_of, three, queue,
 
 -- both shards win the pair
 abbrev unwon : List Line
-unwon = Starts 0 1 ∷ Opens 0 0 (Some queue) ∷ Opens 0 1 (Some queue) ∷ Sends 0 (queue ∷ []) [] [] ∷ Begins 0 0 [] ∷ Wins 0 0 queue member ∷ Begins 0 1 [] ∷ Wins 0 1 queue member ∷ []
+unwon =
+    Starts 0 1 ∷ Opens 0 0 (Some queue) ∷ Opens 0 1 (Some queue) ∷ Sends 0 (queue ∷ []) [] [] ∷ Begins 0 0 []
+    ∷ Wins 0 0 queue member ∷ Begins 0 1 [] ∷ Wins 0 1 queue member ∷ []
 
 pub unwon_is_needed : UnwonIsNeeded
 unwon_is_needed = (
@@ -23,7 +25,16 @@ unwon_is_needed = (
       (
         ((refl, refl), refl),
         (
-          ((refl, refl), (λ s d e. omega arith), same_won small 1 [], one_name queue, omega arith, (λ f i. absurd i), tt, (λ f i. absurd i)),
+          (
+            (refl, refl),
+            (λ s d e. omega arith),
+            same_won small 1 [],
+            one_name queue,
+            omega arith,
+            (λ f i. absurd i),
+            tt,
+            (λ f i. absurd i),
+          ),
           (
             (((refl, refl), refl), refl, refl, refl, (λ u i. absurd i), tt),
             (
@@ -46,7 +57,9 @@ unwon_is_needed = (
 
 -- the member closes before the claim
 abbrev member_closed : List Line
-member_closed = Starts 0 1 ∷ Opens 0 0 (Some queue) ∷ Shuts 0 0 1 ∷ Sends 0 (queue ∷ []) [] [] ∷ Begins 0 0 [] ∷ Wins 0 0 queue member ∷ []
+member_closed =
+    Starts 0 1 ∷ Opens 0 0 (Some queue) ∷ Shuts 0 0 1 ∷ Sends 0 (queue ∷ []) [] [] ∷ Begins 0 0 []
+    ∷ Wins 0 0 queue member ∷ []
 
 pub member_is_needed : MemberIsNeeded
 member_is_needed = (
@@ -59,7 +72,16 @@ member_is_needed = (
       (
         (((refl, refl), refl), member, inl refl, refl),
         (
-          ((refl, refl), (λ s d e. omega arith), same_won small 1 [], one_name queue, omega arith, (λ f i. absurd i), tt, (λ f i. absurd i)),
+          (
+            (refl, refl),
+            (λ s d e. omega arith),
+            same_won small 1 [],
+            one_name queue,
+            omega arith,
+            (λ f i. absurd i),
+            tt,
+            (λ f i. absurd i),
+          ),
           (
             (((refl, refl), refl), refl, refl, refl, (λ u i. absurd i), tt),
             (
@@ -87,9 +109,27 @@ once_is_needed = (
     (
       ((refl, refl), refl),
       (
-        ((refl, refl), (λ s d e. omega arith), same_won small 1 [], none_twice, omega arith, (λ f i. absurd i), tt, (λ f i. absurd i)),
         (
-          (((refl, refl), refl), refl, refl, refl, each_cons (IsOwedPlain three _ _) plain (plain ∷ []) (record { is_open = inl refl; plain = refl; matches = refl }) (owed_plain three _ _ plain (inl refl) refl refl), tt),
+          (refl, refl),
+          (λ s d e. omega arith),
+          same_won small 1 [],
+          none_twice,
+          omega arith,
+          (λ f i. absurd i),
+          tt,
+          (λ f i. absurd i),
+        ),
+        (
+          (
+            ((refl, refl), refl),
+            refl,
+            refl,
+            refl,
+            each_cons (IsOwedPlain three _ _) plain (plain ∷ [])
+                (record { is_open = inl refl; plain = refl; matches = refl })
+                (owed_plain three _ _ plain (inl refl) refl refl),
+            tt,
+          ),
           tt,
         ),
       ),
@@ -103,7 +143,9 @@ narrow = cluster_of 2 1
 
 -- the second turn is issued while shard 1 is behind, and what was won in the first is forgotten
 abbrev behind : List Line
-behind = Starts 0 1 ∷ Opens 0 0 (Some queue) ∷ Opens 0 1 (Some queue) ∷ Sends 0 (queue ∷ []) [] [] ∷ Begins 0 0 [] ∷ Wins 0 0 queue member ∷ Sends 0 [] [] [] ∷ Begins 0 1 [] ∷ Wins 0 1 queue member ∷ []
+behind =
+    Starts 0 1 ∷ Opens 0 0 (Some queue) ∷ Opens 0 1 (Some queue) ∷ Sends 0 (queue ∷ []) [] [] ∷ Begins 0 0 []
+    ∷ Wins 0 0 queue member ∷ Sends 0 [] [] [] ∷ Begins 0 1 [] ∷ Wins 0 1 queue member ∷ []
 
 pub window_is_needed : WindowIsNeeded
 window_is_needed = (
@@ -122,7 +164,21 @@ window_is_needed = (
             (
               (((refl, refl), refl), refl, refl, (λ i. i), inl refl, refl, refl),
               (
-                ((refl, refl), tt, (λ t x lt. ((λ i. ⊎_elim (λ (e : (t, x) ≡ (1, 0)). let k = ap (λ (y : ℕ × ℕ). y.0) e in absurd (omega arith)) (λ k. k) i), (λ i. absurd i))), none_twice, omega arith, (λ f i. absurd i), tt, (λ f i. absurd i)),
+                (
+                  (refl, refl),
+                  tt,
+                  (λ t x lt. (
+                    (λ i.
+                        ⊎_elim (λ (e : (t, x) ≡ (1, 0)). let k = ap (λ (y : ℕ × ℕ). y.0) e in absurd (omega arith))
+                        (λ k. k) i),
+                    (λ i. absurd i),
+                  )),
+                  none_twice,
+                  omega arith,
+                  (λ f i. absurd i),
+                  tt,
+                  (λ f i. absurd i),
+                ),
                 (
                   (((refl, refl), refl), refl, refl, refl, (λ u i. absurd i), tt),
                   (
@@ -142,7 +198,9 @@ window_is_needed = (
 
 -- the node starts again as it was
 abbrev again : List Line
-again = Starts 0 1 ∷ Opens 0 0 None ∷ Sends 0 [] [] [] ∷ Begins 0 0 (plain ∷ []) ∷ Stops 0 ∷ Starts 0 1 ∷ Opens 0 0 None ∷ Sends 0 [] [] [] ∷ Begins 0 0 (plain ∷ []) ∷ []
+again =
+    Starts 0 1 ∷ Opens 0 0 None ∷ Sends 0 [] [] [] ∷ Begins 0 0 (plain ∷ []) ∷ Stops 0 ∷ Starts 0 1 ∷ Opens 0 0 None
+    ∷ Sends 0 [] [] [] ∷ Begins 0 0 (plain ∷ []) ∷ []
 
 pub fresh_is_needed : FreshIsNeeded
 fresh_is_needed = (
@@ -153,9 +211,25 @@ fresh_is_needed = (
     (
       ((refl, refl), refl),
       (
-        ((refl, refl), (λ s d e. omega arith), same_won small 1 [], none_twice, omega arith, (λ f i. absurd i), tt, (λ f i. absurd i)),
         (
-          (((refl, refl), refl), refl, refl, refl, owed_plain three _ _ plain (inl refl) refl refl, ((λ y i. absurd i), tt)),
+          (refl, refl),
+          (λ s d e. omega arith),
+          same_won small 1 [],
+          none_twice,
+          omega arith,
+          (λ f i. absurd i),
+          tt,
+          (λ f i. absurd i),
+        ),
+        (
+          (
+            ((refl, refl), refl),
+            refl,
+            refl,
+            refl,
+            owed_plain three _ _ plain (inl refl) refl refl,
+            ((λ y i. absurd i), tt),
+          ),
           (
             (refl, refl),
             (
@@ -163,9 +237,25 @@ fresh_is_needed = (
               (
                 ((refl, refl), refl),
                 (
-                  ((refl, refl), (λ s d e. omega arith), same_won small 1 [], none_twice, omega arith, (λ f i. absurd i), tt, (λ f i. absurd i)),
                   (
-                    (((refl, refl), refl), refl, refl, refl, owed_plain three _ _ plain (inl refl) refl refl, ((λ y i. absurd i), tt)),
+                    (refl, refl),
+                    (λ s d e. omega arith),
+                    same_won small 1 [],
+                    none_twice,
+                    omega arith,
+                    (λ f i. absurd i),
+                    tt,
+                    (λ f i. absurd i),
+                  ),
+                  (
+                    (
+                      ((refl, refl), refl),
+                      refl,
+                      refl,
+                      refl,
+                      owed_plain three _ _ plain (inl refl) refl refl,
+                      ((λ y i. absurd i), tt),
+                    ),
                     tt,
                   ),
                 ),

@@ -26,8 +26,10 @@ heard_one = record { seen = 1; mark = 1; heard = 0; view = [] }
 -- node 2 takes the frame for node 1
 abbrev two_takers : List Line
 two_takers =
-    Starts 0 1 ∷ Starts 1 1 ∷ Starts 2 1 ∷ Tells 1 [] (Greeting 1 1) ∷ Greets 0 0 1 1 ∷ Opens 1 0 (Some queue) ∷ Opens 2 0 (Some queue) ∷ Sends 0 [] (for_one ∷ []) [] ∷ Takes 1 1 for_one (new_peer 1) ∷ Takes 2 1 for_one (new_peer 1)
-    ∷ Begins 1 0 [] ∷ Wins 1 0 queue member ∷ Begins 2 0 [] ∷ Wins 2 0 queue member ∷ []
+    Starts 0 1 ∷ Starts 1 1 ∷ Starts 2 1 ∷ Tells 1 [] (Greeting 1 1) ∷ Greets 0 0 1 1 ∷ Opens 1 0 (Some queue)
+    ∷ Opens 2 0 (Some queue) ∷ Sends 0 [] (for_one ∷ []) [] ∷ Takes 1 1 for_one (new_peer 1)
+    ∷ Takes 2 1 for_one (new_peer 1) ∷ Begins 1 0 [] ∷ Wins 1 0 queue member ∷ Begins 2 0 [] ∷ Wins 2 0 queue member
+    ∷ []
 
 pub addressee_is_needed : AddresseeIsNeeded
 addressee_is_needed = (
@@ -38,21 +40,59 @@ addressee_is_needed = (
     (
       (refl, refl, omega arith, other_node 1 1 0 1 [] (λ e. absurd (omega arith)) (λ i. i)),
       (
-        (refl, refl, omega arith, other_node 2 1 0 1 ((1, 1) ∷ []) (λ e. absurd (omega arith)) (other_node 2 1 1 1 [] (λ e. absurd (omega arith)) (λ i. i))),
+        (
+          refl,
+          refl,
+          omega arith,
+          other_node 2 1 0 1 ((1, 1) ∷ []) (λ e. absurd (omega arith))
+              (other_node 2 1 1 1 [] (λ e. absurd (omega arith)) (λ i. i)),
+        ),
         (
           ((refl, refl), (refl, refl)),
           (
-            ((refl, refl), refl, (λ e. absurd (omega arith)), refl, inl ((λ e. absurd (omega arith)), omega arith, refl)),
+            (
+              (refl, refl),
+              refl,
+              (λ e. absurd (omega arith)),
+              refl,
+              inl ((λ e. absurd (omega arith)), omega arith, refl),
+            ),
             (
               ((refl, refl), refl),
               (
                 ((refl, refl), refl),
                 (
-                  ((refl, refl), (λ s d e. omega arith), same_won small 1 [], none_twice, omega arith, only (RoutedOf 0 _ _) for_one (of_publication _ _ for_one refl refl refl refl refl (one_name queue)), ((λ y i. absurd i), tt), (λ f i. none_shared f.names)),
                   (
-                    ((refl, refl), refl, (λ s d e. omega arith), record { me = tt; my_inc = refl; other = λ e. absurd (omega arith) }, refl, inl ((λ e. absurd (omega arith)), omega arith, refl), omega arith),
+                    (refl, refl),
+                    (λ s d e. omega arith),
+                    same_won small 1 [],
+                    none_twice,
+                    omega arith,
+                    only (RoutedOf 0 _ _) for_one
+                        (of_publication _ _ for_one refl refl refl refl refl (one_name queue)),
+                    ((λ y i. absurd i), tt),
+                    (λ f i. none_shared f.names),
+                  ),
+                  (
                     (
-                      ((refl, refl), refl, (λ s d e. omega arith), record { me = tt; my_inc = refl; other = λ e. absurd (omega arith) }, refl, inl ((λ e. absurd (omega arith)), omega arith, refl), omega arith),
+                      (refl, refl),
+                      refl,
+                      (λ s d e. omega arith),
+                      record { me = tt; my_inc = refl; other = λ e. absurd (omega arith) },
+                      refl,
+                      inl ((λ e. absurd (omega arith)), omega arith, refl),
+                      omega arith,
+                    ),
+                    (
+                      (
+                        (refl, refl),
+                        refl,
+                        (λ s d e. omega arith),
+                        record { me = tt; my_inc = refl; other = λ e. absurd (omega arith) },
+                        refl,
+                        inl ((λ e. absurd (omega arith)), omega arith, refl),
+                        omega arith,
+                      ),
                       (
                         (((refl, refl), refl), refl, refl, refl, (λ u i. absurd i), tt),
                         (
@@ -82,8 +122,9 @@ addressee_is_needed = (
 -- node 1 takes the frame, starts again, and takes it once more
 abbrev two_incarnations : List Line
 two_incarnations =
-    Starts 0 1 ∷ Starts 1 1 ∷ Tells 1 [] (Greeting 1 1) ∷ Greets 0 0 1 1 ∷ Opens 1 0 (Some queue) ∷ Sends 0 [] (for_one ∷ []) [] ∷ Takes 1 1 for_one (new_peer 1) ∷ Begins 1 0 [] ∷ Wins 1 0 queue member
-    ∷ Stops 1 ∷ Starts 1 2 ∷ Opens 1 0 (Some queue) ∷ Takes 1 1 for_one (new_peer 1) ∷ Begins 1 0 [] ∷ Wins 1 0 queue member ∷ []
+    Starts 0 1 ∷ Starts 1 1 ∷ Tells 1 [] (Greeting 1 1) ∷ Greets 0 0 1 1 ∷ Opens 1 0 (Some queue)
+    ∷ Sends 0 [] (for_one ∷ []) [] ∷ Takes 1 1 for_one (new_peer 1) ∷ Begins 1 0 [] ∷ Wins 1 0 queue member ∷ Stops 1
+    ∷ Starts 1 2 ∷ Opens 1 0 (Some queue) ∷ Takes 1 1 for_one (new_peer 1) ∷ Begins 1 0 [] ∷ Wins 1 0 queue member ∷ []
 
 pub incarnation_is_needed : IncarnationIsNeeded
 incarnation_is_needed = (
@@ -100,9 +141,26 @@ incarnation_is_needed = (
           (
             ((refl, refl), refl),
             (
-              ((refl, refl), (λ s d e. omega arith), same_won small 1 [], none_twice, omega arith, only (RoutedOf 0 _ _) for_one (of_publication _ _ for_one refl refl refl refl refl (one_name queue)), ((λ y i. absurd i), tt), (λ f i. none_shared f.names)),
               (
-                ((refl, refl), refl, (λ s d e. omega arith), record { me = refl; my_inc = tt; other = λ e. absurd (omega arith) }, refl, inl ((λ e. absurd (omega arith)), omega arith, refl), omega arith),
+                (refl, refl),
+                (λ s d e. omega arith),
+                same_won small 1 [],
+                none_twice,
+                omega arith,
+                only (RoutedOf 0 _ _) for_one (of_publication _ _ for_one refl refl refl refl refl (one_name queue)),
+                ((λ y i. absurd i), tt),
+                (λ f i. none_shared f.names),
+              ),
+              (
+                (
+                  (refl, refl),
+                  refl,
+                  (λ s d e. omega arith),
+                  record { me = refl; my_inc = tt; other = λ e. absurd (omega arith) },
+                  refl,
+                  inl ((λ e. absurd (omega arith)), omega arith, refl),
+                  omega arith,
+                ),
                 (
                   (((refl, refl), refl), refl, refl, refl, (λ u i. absurd i), tt),
                   (
@@ -110,11 +168,25 @@ incarnation_is_needed = (
                     (
                       (refl, refl),
                       (
-                        (refl, refl, omega arith, other_node 1 2 0 1 ((1, 1) ∷ []) (λ e. absurd (omega arith)) (other_inc 1 2 1 1 [] (λ e. absurd (omega arith)) (λ i. i))),
+                        (
+                          refl,
+                          refl,
+                          omega arith,
+                          other_node 1 2 0 1 ((1, 1) ∷ []) (λ e. absurd (omega arith))
+                              (other_inc 1 2 1 1 [] (λ e. absurd (omega arith)) (λ i. i)),
+                        ),
                         (
                           ((refl, refl), refl),
                           (
-                            ((refl, refl), refl, (λ s d e. omega arith), record { me = refl; my_inc = tt; other = λ e. absurd (omega arith) }, refl, inl ((λ e. absurd (omega arith)), omega arith, refl), omega arith),
+                            (
+                              (refl, refl),
+                              refl,
+                              (λ s d e. omega arith),
+                              record { me = refl; my_inc = tt; other = λ e. absurd (omega arith) },
+                              refl,
+                              inl ((λ e. absurd (omega arith)), omega arith, refl),
+                              omega arith,
+                            ),
                             (
                               (((refl, refl), refl), refl, refl, refl, (λ u i. absurd i), tt),
                               (
@@ -141,8 +213,9 @@ incarnation_is_needed = (
 -- node 1 takes the frame twice
 abbrev repeated : List Line
 repeated =
-    Starts 0 1 ∷ Starts 1 1 ∷ Tells 1 [] (Greeting 1 1) ∷ Greets 0 0 1 1 ∷ Opens 1 0 None ∷ Sends 0 [] (bare ∷ []) [] ∷ Takes 1 1 bare (new_peer 1) ∷ Takes 1 1 bare heard_one
-    ∷ Begins 1 0 (plain ∷ []) ∷ Ends 1 0 ∷ Begins 1 0 (plain ∷ []) ∷ []
+    Starts 0 1 ∷ Starts 1 1 ∷ Tells 1 [] (Greeting 1 1) ∷ Greets 0 0 1 1 ∷ Opens 1 0 None ∷ Sends 0 [] (bare ∷ []) []
+    ∷ Takes 1 1 bare (new_peer 1) ∷ Takes 1 1 bare heard_one ∷ Begins 1 0 (plain ∷ []) ∷ Ends 1 0
+    ∷ Begins 1 0 (plain ∷ []) ∷ []
 
 pub mark_is_needed : MarkIsNeeded
 mark_is_needed = (
@@ -159,17 +232,56 @@ mark_is_needed = (
           (
             ((refl, refl), refl),
             (
-              ((refl, refl), (λ s d e. omega arith), same_won small 1 [], none_twice, omega arith, only (RoutedOf 0 _ _) bare (of_publication _ _ bare refl refl refl refl refl none_twice), ((λ y i. absurd i), tt), (λ f i. none_shared f.names)),
               (
-                ((refl, refl), refl, (λ s d e. omega arith), record { me = refl; my_inc = refl; other = λ e. absurd (omega arith) }, refl, inl ((λ e. absurd (omega arith)), omega arith, refl), tt),
+                (refl, refl),
+                (λ s d e. omega arith),
+                same_won small 1 [],
+                none_twice,
+                omega arith,
+                only (RoutedOf 0 _ _) bare (of_publication _ _ bare refl refl refl refl refl none_twice),
+                ((λ y i. absurd i), tt),
+                (λ f i. none_shared f.names),
+              ),
+              (
                 (
-                  ((refl, refl), refl, (λ s d e. omega arith), record { me = refl; my_inc = refl; other = λ e. absurd (omega arith) }, refl, inr (refl, refl), tt),
+                  (refl, refl),
+                  refl,
+                  (λ s d e. omega arith),
+                  record { me = refl; my_inc = refl; other = λ e. absurd (omega arith) },
+                  refl,
+                  inl ((λ e. absurd (omega arith)), omega arith, refl),
+                  tt,
+                ),
+                (
                   (
-                    (((refl, refl), refl), refl, refl, refl, owed_plain three _ _ plain (inl refl) refl refl, ((λ y i. absurd i), tt)),
+                    (refl, refl),
+                    refl,
+                    (λ s d e. omega arith),
+                    record { me = refl; my_inc = refl; other = λ e. absurd (omega arith) },
+                    refl,
+                    inr (refl, refl),
+                    tt,
+                  ),
+                  (
+                    (
+                      ((refl, refl), refl),
+                      refl,
+                      refl,
+                      refl,
+                      owed_plain three _ _ plain (inl refl) refl refl,
+                      ((λ y i. absurd i), tt),
+                    ),
                     (
                       (((refl, refl), refl), refl, refl),
                       (
-                        (((refl, refl), refl), refl, refl, refl, owed_plain three _ _ plain (inl refl) refl refl, ((λ y i. absurd i), tt)),
+                        (
+                          ((refl, refl), refl),
+                          refl,
+                          refl,
+                          refl,
+                          owed_plain three _ _ plain (inl refl) refl refl,
+                          ((λ y i. absurd i), tt),
+                        ),
                         tt,
                       ),
                     ),
@@ -188,8 +300,9 @@ mark_is_needed = (
 -- node 1 takes the frame, hears of the next incarnation of node 0, and takes the old frame once more
 abbrev late : List Line
 late =
-    Starts 0 1 ∷ Starts 1 1 ∷ Tells 1 [] (Greeting 1 1) ∷ Greets 0 0 1 1 ∷ Opens 1 0 None ∷ Sends 0 [] (bare ∷ []) [] ∷ Takes 1 1 bare (new_peer 1) ∷ Stops 0 ∷ Starts 0 2 ∷ Tells 0 [] (Greeting 0 2) ∷ Greets 1 2 0 2 ∷ Takes 1 1 bare (new_peer 1)
-    ∷ Begins 1 0 (plain ∷ []) ∷ Ends 1 0 ∷ Begins 1 0 (plain ∷ []) ∷ []
+    Starts 0 1 ∷ Starts 1 1 ∷ Tells 1 [] (Greeting 1 1) ∷ Greets 0 0 1 1 ∷ Opens 1 0 None ∷ Sends 0 [] (bare ∷ []) []
+    ∷ Takes 1 1 bare (new_peer 1) ∷ Stops 0 ∷ Starts 0 2 ∷ Tells 0 [] (Greeting 0 2) ∷ Greets 1 2 0 2
+    ∷ Takes 1 1 bare (new_peer 1) ∷ Begins 1 0 (plain ∷ []) ∷ Ends 1 0 ∷ Begins 1 0 (plain ∷ []) ∷ []
 
 pub origin_is_needed : OriginIsNeeded
 origin_is_needed = (
@@ -206,25 +319,76 @@ origin_is_needed = (
           (
             ((refl, refl), refl),
             (
-              ((refl, refl), (λ s d e. omega arith), same_won small 1 [], none_twice, omega arith, only (RoutedOf 0 _ _) bare (of_publication _ _ bare refl refl refl refl refl none_twice), ((λ y i. absurd i), tt), (λ f i. none_shared f.names)),
               (
-                ((refl, refl), refl, (λ s d e. omega arith), record { me = refl; my_inc = refl; other = λ e. absurd (omega arith) }, refl, inl ((λ e. absurd (omega arith)), tt, refl), omega arith),
+                (refl, refl),
+                (λ s d e. omega arith),
+                same_won small 1 [],
+                none_twice,
+                omega arith,
+                only (RoutedOf 0 _ _) bare (of_publication _ _ bare refl refl refl refl refl none_twice),
+                ((λ y i. absurd i), tt),
+                (λ f i. none_shared f.names),
+              ),
+              (
+                (
+                  (refl, refl),
+                  refl,
+                  (λ s d e. omega arith),
+                  record { me = refl; my_inc = refl; other = λ e. absurd (omega arith) },
+                  refl,
+                  inl ((λ e. absurd (omega arith)), tt, refl),
+                  omega arith,
+                ),
                 (
                   (refl, refl),
                   (
-                    (refl, refl, omega arith, other_inc 0 2 0 1 ((1, 1) ∷ []) (λ e. absurd (omega arith)) (other_node 0 2 1 1 [] (λ e. absurd (omega arith)) (λ i. i))),
+                    (
+                      refl,
+                      refl,
+                      omega arith,
+                      other_inc 0 2 0 1 ((1, 1) ∷ []) (λ e. absurd (omega arith))
+                          (other_node 0 2 1 1 [] (λ e. absurd (omega arith)) (λ i. i)),
+                    ),
                     (
                       ((refl, refl), (refl, refl)),
                       (
-                        ((refl, refl), refl, (λ e. absurd (omega arith)), refl, inl ((λ e. absurd (omega arith)), tt, refl)),
                         (
-                          ((refl, refl), refl, (λ s d e. omega arith), record { me = refl; my_inc = refl; other = λ e. absurd (omega arith) }, refl, inl ((λ e. absurd (omega arith)), tt, refl), omega arith),
+                          (refl, refl),
+                          refl,
+                          (λ e. absurd (omega arith)),
+                          refl,
+                          inl ((λ e. absurd (omega arith)), tt, refl),
+                        ),
+                        (
                           (
-                            (((refl, refl), refl), refl, refl, refl, owed_plain three _ _ plain (inl refl) refl refl, ((λ y i. absurd i), tt)),
+                            (refl, refl),
+                            refl,
+                            (λ s d e. omega arith),
+                            record { me = refl; my_inc = refl; other = λ e. absurd (omega arith) },
+                            refl,
+                            inl ((λ e. absurd (omega arith)), tt, refl),
+                            omega arith,
+                          ),
+                          (
+                            (
+                              ((refl, refl), refl),
+                              refl,
+                              refl,
+                              refl,
+                              owed_plain three _ _ plain (inl refl) refl refl,
+                              ((λ y i. absurd i), tt),
+                            ),
                             (
                               (((refl, refl), refl), refl, refl),
                               (
-                                (((refl, refl), refl), refl, refl, refl, owed_plain three _ _ plain (inl refl) refl refl, ((λ y i. absurd i), tt)),
+                                (
+                                  ((refl, refl), refl),
+                                  refl,
+                                  refl,
+                                  refl,
+                                  owed_plain three _ _ plain (inl refl) refl refl,
+                                  ((λ y i. absurd i), tt),
+                                ),
                                 tt,
                               ),
                             ),
@@ -257,9 +421,24 @@ sent_is_needed = (
     (
       ((refl, refl), refl),
       (
-        ((refl, refl), tt, (λ s d e. omega arith), record { me = refl; my_inc = refl; other = λ e. absurd (omega arith) }, refl, inl ((λ e. absurd (omega arith)), omega arith, refl), omega arith),
         (
-          (((refl, refl), refl), refl, refl, refl, owed_plain three _ _ plain (inl refl) refl refl, ((λ y i. absurd i), tt)),
+          (refl, refl),
+          tt,
+          (λ s d e. omega arith),
+          record { me = refl; my_inc = refl; other = λ e. absurd (omega arith) },
+          refl,
+          inl ((λ e. absurd (omega arith)), omega arith, refl),
+          omega arith,
+        ),
+        (
+          (
+            ((refl, refl), refl),
+            refl,
+            refl,
+            refl,
+            owed_plain three _ _ plain (inl refl) refl refl,
+            ((λ y i. absurd i), tt),
+          ),
           tt,
         ),
       ),
@@ -271,8 +450,9 @@ sent_is_needed = (
 -- the queue name goes to node 1, and is served by node 0 too
 abbrev shared : List Line
 shared =
-    Starts 0 1 ∷ Starts 1 1 ∷ Tells 1 [] (Greeting 1 1) ∷ Greets 0 0 1 1 ∷ Opens 0 0 (Some queue) ∷ Opens 1 0 (Some queue) ∷ Sends 0 (queue ∷ []) (for_one ∷ []) [] ∷ Takes 1 1 for_one (new_peer 1)
-    ∷ Begins 0 0 [] ∷ Wins 0 0 queue member ∷ Begins 1 0 [] ∷ Wins 1 0 queue member ∷ []
+    Starts 0 1 ∷ Starts 1 1 ∷ Tells 1 [] (Greeting 1 1) ∷ Greets 0 0 1 1 ∷ Opens 0 0 (Some queue)
+    ∷ Opens 1 0 (Some queue) ∷ Sends 0 (queue ∷ []) (for_one ∷ []) [] ∷ Takes 1 1 for_one (new_peer 1) ∷ Begins 0 0 []
+    ∷ Wins 0 0 queue member ∷ Begins 1 0 [] ∷ Wins 1 0 queue member ∷ []
 
 pub apart_is_needed : ApartIsNeeded
 apart_is_needed = (
@@ -291,9 +471,26 @@ apart_is_needed = (
             (
               ((refl, refl), refl),
               (
-                ((refl, refl), (λ s d e. omega arith), same_won small 1 [], one_name queue, omega arith, only (RoutedOf 0 _ _) for_one (of_publication _ _ for_one refl refl refl refl refl (one_name queue)), ((λ y i. absurd i), tt), (λ f i. tt)),
                 (
-                  ((refl, refl), refl, (λ s d e. omega arith), record { me = refl; my_inc = refl; other = λ e. absurd (omega arith) }, refl, inl ((λ e. absurd (omega arith)), omega arith, refl), omega arith),
+                  (refl, refl),
+                  (λ s d e. omega arith),
+                  same_won small 1 [],
+                  one_name queue,
+                  omega arith,
+                  only (RoutedOf 0 _ _) for_one (of_publication _ _ for_one refl refl refl refl refl (one_name queue)),
+                  ((λ y i. absurd i), tt),
+                  (λ f i. tt),
+                ),
+                (
+                  (
+                    (refl, refl),
+                    refl,
+                    (λ s d e. omega arith),
+                    record { me = refl; my_inc = refl; other = λ e. absurd (omega arith) },
+                    refl,
+                    inl ((λ e. absurd (omega arith)), omega arith, refl),
+                    omega arith,
+                  ),
                   (
                     (((refl, refl), refl), refl, refl, refl, (λ u i. absurd i), tt),
                     (
@@ -320,7 +517,8 @@ apart_is_needed = (
 
 -- node 1 gets one frame with the queue name, and one without
 abbrev two_frames : List Line
-two_frames = Starts 0 1 ∷ Starts 1 1 ∷ Tells 1 [] (Greeting 1 1) ∷ Greets 0 0 1 1 ∷ Sends 0 [] (for_one ∷ bare ∷ []) [] ∷ []
+two_frames =
+    Starts 0 1 ∷ Starts 1 1 ∷ Tells 1 [] (Greeting 1 1) ∷ Greets 0 0 1 1 ∷ Sends 0 [] (for_one ∷ bare ∷ []) [] ∷ []
 
 pub one_frame_is_needed : OneFrameIsNeeded
 one_frame_is_needed = (
@@ -335,7 +533,21 @@ one_frame_is_needed = (
         (
           ((refl, refl), refl, (λ e. absurd (omega arith)), refl, inl ((λ e. absurd (omega arith)), omega arith, refl)),
           (
-            ((refl, refl), (λ s d e. omega arith), same_won small 1 [], none_twice, omega arith, each_cons (RoutedOf 0 _ _) for_one (bare ∷ []) (of_publication _ _ for_one refl refl refl refl refl (one_name queue)) (only (RoutedOf 0 _ _) bare (of_publication _ _ bare refl refl refl refl refl none_twice)), (only (λ g. Unit {0} × Disjoint (queue ∷ []) g.names) bare (tt, none_shared (queue ∷ [])), ((λ y i. absurd i), tt)), (λ f i. none_shared f.names)),
+            (
+              (refl, refl),
+              (λ s d e. omega arith),
+              same_won small 1 [],
+              none_twice,
+              omega arith,
+              each_cons (RoutedOf 0 _ _) for_one (bare ∷ [])
+                  (of_publication _ _ for_one refl refl refl refl refl (one_name queue))
+                  (only (RoutedOf 0 _ _) bare (of_publication _ _ bare refl refl refl refl refl none_twice)),
+              (
+                only (λ g. Unit {0} × Disjoint (queue ∷ []) g.names) bare (tt, none_shared (queue ∷ [])),
+                ((λ y i. absurd i), tt),
+              ),
+              (λ f i. none_shared f.names),
+            ),
             tt,
           ),
         ),
@@ -353,7 +565,12 @@ news k = record { origin = 0; inc = 1; to = 1; to_inc = 1; number = k; body = Ch
 
 -- node 1 takes the second change without the first
 abbrev gap : List Line
-gap = Starts 0 1 ∷ Starts 1 1 ∷ Tells 0 (Up (weighted 1) ∷ []) (Interest (news 1)) ∷ Tells 0 (Up (weighted 2) ∷ []) (Interest (news 2)) ∷ Hears 1 1 (news 2) (new_peer 1) (weighted 2 ∷ []) ∷ []
+gap =
+    Starts 0 1
+    ∷ Starts 1 1
+    ∷ Tells 0 (Up (weighted 1) ∷ []) (Interest (news 1))
+    ∷ Tells 0 (Up (weighted 2) ∷ []) (Interest (news 2))
+    ∷ Hears 1 1 (news 2) (new_peer 1) (weighted 2 ∷ []) ∷ []
 
 pub next_is_needed : NextIsNeeded
 next_is_needed = (
@@ -368,7 +585,14 @@ next_is_needed = (
         (
           ((refl, refl), record { origin = refl; inc = refl; says = (0, refl, refl) }),
           (
-            ((refl, refl), refl, record { me = refl; my_inc = refl; other = λ e. absurd (omega arith) }, refl, inl ((λ e. absurd (omega arith)), omega arith, refl), (tt, refl)),
+            (
+              (refl, refl),
+              refl,
+              record { me = refl; my_inc = refl; other = λ e. absurd (omega arith) },
+              refl,
+              inl ((λ e. absurd (omega arith)), omega arith, refl),
+              (tt, refl),
+            ),
             tt,
           ),
         ),

@@ -35,7 +35,10 @@ given_apart s (SetHeaders conn on) apart = tt
 given_apart s (Take conn count) apart = tt
 given_apart s (Begin job) apart =
     let g = walk_gives s job (filter (is_due job) s.subs) (first_step s.clients) in
-    subst Apart (sym g.given) (pairs_sub (λ u v. u.serial ≢ v.serial) g.new (filter (is_due job) s.subs) g.some (pairs_filter (λ u v. u.serial ≢ v.serial) (is_due job) s.subs (pairs_map_back (λ j k. j ≢ k) serial_of s.subs apart)))
+    subst Apart (sym g.given)
+    (pairs_sub (λ u v. u.serial ≢ v.serial) g.new (filter (is_due job) s.subs) g.some
+    (pairs_filter (λ u v. u.serial ≢ v.serial) (is_due job) s.subs
+    (pairs_map_back (λ j k. j ≢ k) serial_of s.subs apart)))
 given_apart s (Claim index won) apart = go s.hand (candidate_of s s.hand index) won
   where
     go : (hand : Option Job) (u : Option Subscription) (won : Bool) → Apart (given_by_claim hand u won)
@@ -48,7 +51,11 @@ given_apart s (DropJob waiting) apart = tt
 given_apart s Drain apart = tt
 given_apart s Collect apart = tt
 
-at_apart : (server : ServerIdentity) (a : Node) (place : ℕ) (event : ShardWithJobs → Option Event) (o : Option ShardWithJobs) → SoundNode server a → ((line : ShardWithJobs) → o ≡ Some line → slice_get a.lines place ≡ Some line) → Apart (given_at (part_at place event o))
+at_apart : (server : ServerIdentity) (a : Node) (place : ℕ) (event : ShardWithJobs → Option Event)
+    (o : Option ShardWithJobs)
+    → SoundNode server a
+    → ((line : ShardWithJobs) → o ≡ Some line → slice_get a.lines place ≡ Some line)
+    → Apart (given_at (part_at place event o))
 at_apart server a place event None sound is = tt
 at_apart server a place event (Some line) sound is = go (event line)
   where
@@ -56,9 +63,15 @@ at_apart server a place event (Some line) sound is = go (event line)
     go None = tt
     go (Some e) = given_apart line.shard e (sound.lines place line (is line refl)).sound.apart
 
-pub part_apart : (server : ServerIdentity) (a : Node) (e : NodeEvent) (won : Bool) → SoundNode server a → Apart (given_at (part_of server a e won))
-part_apart server a (Own (of_node.OfConn conn event)) won sound = at_apart server a (conn_place server conn) (λ line. Some (conn_event conn event)) (conn_line server a conn) sound (λ line e. found (nat_eq conn 0) (slice_get a.lines (conn_place server conn)) line e)
-part_apart server a (Own (of_node.AtShard shard work)) won sound = at_apart server a (shard - 1) (work_event work won) (shard_line a shard) sound (λ line e. found (nat_eq shard 0) (slice_get a.lines (shard - 1)) line e)
+pub part_apart : (server : ServerIdentity) (a : Node) (e : NodeEvent) (won : Bool)
+    → SoundNode server a
+    → Apart (given_at (part_of server a e won))
+part_apart server a (Own (of_node.OfConn conn event)) won sound =
+    at_apart server a (conn_place server conn) (λ line. Some (conn_event conn event)) (conn_line server a conn) sound
+    (λ line e. found (nat_eq conn 0) (slice_get a.lines (conn_place server conn)) line e)
+part_apart server a (Own (of_node.AtShard shard work)) won sound =
+    at_apart server a (shard - 1) (work_event work won) (shard_line a shard) sound
+    (λ line e. found (nat_eq shard 0) (slice_get a.lines (shard - 1)) line e)
 part_apart server a (Own (of_node.Publish p)) won sound = tt
 part_apart server a (Own (of_node.Collect shard)) won sound = tt
 part_apart server a (Own of_node.Drain) won sound = tt

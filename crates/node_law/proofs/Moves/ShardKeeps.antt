@@ -35,8 +35,11 @@ keeps_number s (Unsubscribe conn sid max) = go (sub_called conn sid s.subs)
   where
     go : (u : Option Subscription) → Same s (after_unsubscribe s max u)
     go None = record { shard = refl; shards = refl }
-    go (Some u) = either s _ _ (ended_now max u) (record { shard = refl; shards = refl }) (record { shard = refl; shards = refl })
-keeps_number s (Reply conn frame) = either s _ _ (answer_fits s conn _) (record { shard = refl; shards = refl }) (record { shard = refl; shards = refl })
+    go (Some u) =
+        either s _ _ (ended_now max u) (record { shard = refl; shards = refl }) (record { shard = refl; shards = refl })
+keeps_number s (Reply conn frame) =
+    either s _ _ (answer_fits s conn _) (record { shard = refl; shards = refl })
+    (record { shard = refl; shards = refl })
 keeps_number s (Shut conn text) = record { shard = refl; shards = refl }
 keeps_number s (Detach conn) = record { shard = refl; shards = refl }
 keeps_number s (SetHeaders conn on) = record { shard = refl; shards = refl }
@@ -47,7 +50,9 @@ keeps_number s (Claim index won) = go s.hand (candidate_of s s.hand index)
     go : (hand : Option Job) (u : Option Subscription) → Same s (after_claim s hand u won)
     go None u = record { shard = refl; shards = refl }
     go (Some job) None = record { shard = refl; shards = refl }
-    go (Some job) (Some u) = either s (after_put (after_try s) job u) (after_try s) won (record { shard = refl; shards = refl }) (record { shard = refl; shards = refl })
+    go (Some job) (Some u) =
+        either s (after_put (after_try s) job u) (after_try s) won (record { shard = refl; shards = refl })
+        (record { shard = refl; shards = refl })
 keeps_number s End = go s.hand
   where
     go : (hand : Option Job) → Same s (done_with s hand)
@@ -68,18 +73,27 @@ pub record OpenHere (n inc place : ℕ) (after : State) (life : history.Life) : 
   pub shard : life.id.shard ≡ place
   pub is_open : is_open_serial life.id.serial after.subs ≡ true
 
-pub lives_open : (n inc now place : ℕ) (s : State) (e : Event) → Each (OpenHere n inc place (shard_after s e)) (lives_by n inc now place s e)
+pub lives_open : (n inc now place : ℕ) (s : State) (e : Event)
+    → Each (OpenHere n inc place (shard_after s e)) (lives_by n inc now place s e)
 lives_open n inc now place s Attach = λ life i. absurd i
 lives_open n inc now place s (Subscribe conn key sid) = go (sub_called conn sid s.subs)
   where
-    go : (u : Option Subscription) → Each (OpenHere n inc place (after_subscribe s (new_sub s conn key sid) u)) (opened_by n inc now place s conn key sid u)
+    go : (u : Option Subscription)
+        → Each (OpenHere n inc place (after_subscribe s (new_sub s conn key sid) u))
+        (opened_by n inc now place s conn key sid u)
     go (Some u) life i = absurd i
-    go None life i = ⊎_elim (λ e. subst (OpenHere n inc place (after_subscribe s (new_sub s conn key sid) None)) (sym e) (record {
-      node = refl;
-      inc_is = refl;
-      shard = refl;
-      is_open = in_has (s.opened + 1) _ (subst (In (s.opened + 1)) (sym (map_append serial_of s.subs (new_sub s conn key sid ∷ []))) (in_right (s.opened + 1) (serials_of s.subs) ((s.opened + 1) ∷ []) (inl refl)));
-    })) (λ f. absurd f) i
+    go None life i =
+        ⊎_elim (λ e.
+        subst (OpenHere n inc place (after_subscribe s (new_sub s conn key sid) None)) (sym e) (record {
+          node = refl;
+          inc_is = refl;
+          shard = refl;
+          is_open =
+              in_has (s.opened + 1) _
+              (subst (In (s.opened + 1)) (sym (map_append serial_of s.subs (new_sub s conn key sid ∷ [])))
+              (in_right (s.opened + 1) (serials_of s.subs) ((s.opened + 1) ∷ []) (inl refl)));
+        }))
+        (λ f. absurd f) i
 lives_open n inc now place s (Unsubscribe conn sid max) = λ life i. absurd i
 lives_open n inc now place s (Reply conn frame) = λ life i. absurd i
 lives_open n inc now place s (Shut conn text) = λ life i. absurd i

@@ -23,11 +23,24 @@ peers_many : {A : Type 0} (k : ℕ) (x : A) → length (replicate k x) ≡ k
 peers_many zero x = refl
 peers_many (suc k) x = let z = peers_many k x in omega arith
 
-line_at : (server : ServerIdentity) (first count place : ℕ) (line : ShardWithJobs) → slice_get (lines_from server.shards (suc first) count) place ≡ Some line → LineAt server 0 (first + place) line
+line_at : (server : ServerIdentity) (first count place : ℕ) (line : ShardWithJobs)
+    → slice_get (lines_from server.shards (suc first) count) place ≡ Some line
+    → LineAt server 0 (first + place) line
 line_at server first zero place line e = absurd (none-some line e)
 line_at server first (suc count) zero line e =
-    subst (LineAt server 0 (first + 0)) (same_Some (new_line server.shards (suc first)) line e) (record { sound = record { hand = λ j f. absurd (none-some j f); turns = refl; room = omega arith; apart = tt; below = λ j i. absurd i }; number = omega arith; shards = refl })
-line_at server first (suc count) (suc place) line e = subst (λ q. LineAt server 0 q line) (one_more first place) (line_at server (suc first) count place line e)
+    subst (LineAt server 0 (first + 0)) (same_Some (new_line server.shards (suc first)) line e) (record {
+      sound = record {
+        hand = λ j f. absurd (none-some j f);
+        turns = refl;
+        room = omega arith;
+        apart = tt;
+        below = λ j i. absurd i;
+      };
+      number = omega arith;
+      shards = refl;
+    })
+line_at server first (suc count) (suc place) line e =
+    subst (λ q. LineAt server 0 q line) (one_more first place) (line_at server (suc first) count place line e)
   where
     one_more : (m j : ℕ) → suc m + j ≡ m + suc j
     one_more m j = omega arith
@@ -45,7 +58,8 @@ pub starts_sound : (server : ServerIdentity) → SoundNode server (new_node serv
 starts_sound server = record {
   issued = refl;
   size = many server.shards 1 server.shards;
-  lines = λ place line e. subst (λ q. LineAt server 0 q line) (none_more place) (line_at server 0 server.shards place line e);
+  lines = λ place line e.
+      subst (λ q. LineAt server 0 q line) (none_more place) (line_at server 0 server.shards place line e);
   raced = record {
     finished = none_finished server.shards 1 server.shards;
     next = λ place line e. zero_at server.shards place (tried_of line.shard.hand line.shard.next_index);
@@ -57,6 +71,10 @@ starts_sound server = record {
     none_more : (k : ℕ) → 0 + k ≡ k
     none_more k = omega arith
 
-pub run_sound : (server : ServerIdentity) (h : List Done) (a : Node) → IsListed server → Ran server h a → SoundNode server a
+pub run_sound : (server : ServerIdentity) (h : List Done) (a : Node)
+    → IsListed server
+    → Ran server h a
+    → SoundNode server a
 run_sound server [] a listed is = subst (SoundNode server) (sym is) (starts_sound server)
-run_sound server (d ∷ earlier) a listed ran = stays_sound server d.before d.event d.won d.race a listed (run_sound server earlier d.before listed ran.1) ran.0
+run_sound server (d ∷ earlier) a listed ran =
+    stays_sound server d.before d.event d.won d.race a listed (run_sound server earlier d.before listed ran.1) ran.0

@@ -62,8 +62,10 @@ pub in_times : (key : Key) (keys : List Key) → In key keys → 0 < times key k
 in_times key [] i = absurd i
 in_times key (k ∷ keys) i =
     let s = sum_by-cons (one_if_same key) k keys in
-    ⊎_elim
-    (λ (e : key ≡ k). let one : ◌≡◌ {A = ℕ} (cond (is_eq (key_cmp key k)) 1 0) 1 = ap (λ b. cond b 1 0) (subst (λ x. is_eq (key_cmp key x) ≡ true) e (is_self key)) in omega (arith, s, one))
+    ⊎_elim (λ (e : key ≡ k).
+    let one : ◌≡◌ {A = ℕ} (cond (is_eq (key_cmp key k)) 1 0) 1 =
+    ap (λ b. cond b 1 0) (subst (λ x. is_eq (key_cmp key x) ≡ true) e (is_self key)) in
+    omega (arith, s, one))
     (λ (j : In key keys). let h = in_times key keys j in omega (arith, s, h)) i
 
 -- ---- open subscriptions
@@ -78,15 +80,26 @@ pub record OpenSub (lines : List ShardWithJobs) (key : Key) : Type 0 where
 
 pub open_in : (lines : List ShardWithJobs) (key : Key) → In key (open_keys lines) → OpenSub lines key
 open_in [] key i = absurd i
-open_in (line ∷ lines) key i = ⊎_elim
-    (λ (j : In key (keys_of line.shard.subs)). let h = in_map (λ (sub : Subscription). sub.key) line.shard.subs key j in record { place = 0; line = line; at = refl; sub = h.0; there = h.1; is = sym h.2 })
-    (λ (j : In key (open_keys lines)). let h = open_in lines key j in record { place = suc h.place; line = h.line; at = h.at; sub = h.sub; there = h.there; is = h.is })
+open_in (line ∷ lines) key i =
+    ⊎_elim (λ (j : In key (keys_of line.shard.subs)).
+    let h = in_map (λ (sub : Subscription). sub.key) line.shard.subs key j in
+    record { place = 0; line = line; at = refl; sub = h.0; there = h.1; is = sym h.2 })
+    (λ (j : In key (open_keys lines)).
+    let h = open_in lines key j in
+    record { place = suc h.place; line = h.line; at = h.at; sub = h.sub; there = h.there; is = h.is })
     (in_append key (keys_of line.shard.subs) (open_keys lines) i)
 
-pub in_open : (lines : List ShardWithJobs) (place : ℕ) (line : ShardWithJobs) (sub : Subscription) → slice_get lines place ≡ Some line → In sub line.shard.subs → In sub.key (open_keys lines)
+pub in_open : (lines : List ShardWithJobs) (place : ℕ) (line : ShardWithJobs) (sub : Subscription)
+    → slice_get lines place ≡ Some line
+    → In sub line.shard.subs
+    → In sub.key (open_keys lines)
 in_open [] place line sub at i = absurd (none-some line at)
-in_open (x ∷ lines) zero line sub at i = in_left sub.key (keys_of x.shard.subs) (open_keys lines) (in_mapped (λ (u : Subscription). u.key) x.shard.subs sub (subst (λ (l : ShardWithJobs). In sub l.shard.subs) (sym (same_Some x line at)) i))
-in_open (x ∷ lines) (suc place) line sub at i = in_right sub.key (keys_of x.shard.subs) (open_keys lines) (in_open lines place line sub at i)
+in_open (x ∷ lines) zero line sub at i =
+    in_left sub.key (keys_of x.shard.subs) (open_keys lines)
+    (in_mapped (λ (u : Subscription). u.key) x.shard.subs sub
+    (subst (λ (l : ShardWithJobs). In sub l.shard.subs) (sym (same_Some x line at)) i))
+in_open (x ∷ lines) (suc place) line sub at i =
+    in_right sub.key (keys_of x.shard.subs) (open_keys lines) (in_open lines place line sub at i)
 
 -- ---- counts
 
@@ -94,34 +107,62 @@ pub counted_in : (counts : Counts) (key : Key) → 0 < count_of counts key → (
 counted_in [] key lt = absurd (omega arith)
 counted_in (e ∷ counts) key lt = go (is_eq (key_cmp key e.0)) refl lt (counted_in counts key)
   where
-    go : (b : Bool) → is_eq (key_cmp key e.0) ≡ b → 0 < count_of (e ∷ counts) key → (0 < count_of counts key → (n : ℕ) × In (key, n) counts) → (n : ℕ) × In (key, n) (e ∷ counts)
+    go : (b : Bool)
+        → is_eq (key_cmp key e.0) ≡ b
+        → 0 < count_of (e ∷ counts) key
+        → (0 < count_of counts key → (n : ℕ) × In (key, n) counts)
+        → (n : ℕ) × In (key, n) (e ∷ counts)
     go true f lt later = let same = same_if key e.0 f in (e.1, inl (λ i. (same i, e.1)))
     go false f lt later =
-        let g : count_of (e ∷ counts) key ≡ count_of counts key = ap (λ b. unwrap_or (cond b (Some e.1) (lookup (is_at (key_cmp key)) counts)) 0) f in
-        let h = later (omega (arith, lt, g)) in (h.0, inr h.1)
+        let g : count_of (e ∷ counts) key ≡ count_of counts key =
+        ap (λ b. unwrap_or (cond b (Some e.1) (lookup (is_at (key_cmp key)) counts)) 0) f in
+        let h = later (omega (arith, lt, g)) in
+        (h.0, inr h.1)
 
-pub in_counted : (counts : Counts) (key : Key) (n : ℕ) → All (λ count. 1 ≤ count) (values_of counts) → In (key, n) counts → 0 < count_of counts key
+pub in_counted : (counts : Counts) (key : Key) (n : ℕ)
+    → All (λ count. 1 ≤ count) (values_of counts)
+    → In (key, n) counts
+    → 0 < count_of counts key
 in_counted [] key n all i = absurd i
-in_counted (e ∷ counts) key n all i = go (is_eq (key_cmp key e.0)) refl (in_counted counts key n (All-tail (λ (count : ℕ). 1 ≤ count) e.1 (values_of counts) all))
+in_counted (e ∷ counts) key n all i =
+    go (is_eq (key_cmp key e.0)) refl
+    (in_counted counts key n (All-tail (λ (count : ℕ). 1 ≤ count) e.1 (values_of counts) all))
   where
-    go : (b : Bool) → is_eq (key_cmp key e.0) ≡ b → (In (key, n) counts → 0 < count_of counts key) → 0 < count_of (e ∷ counts) key
+    go : (b : Bool)
+        → is_eq (key_cmp key e.0) ≡ b
+        → (In (key, n) counts → 0 < count_of counts key)
+        → 0 < count_of (e ∷ counts) key
     go true f later =
-        let g : count_of (e ∷ counts) key ≡ e.1 = ap (λ b. unwrap_or (cond b (Some e.1) (lookup (is_at (key_cmp key)) counts)) 0) f in
+        let g : count_of (e ∷ counts) key ≡ e.1 =
+        ap (λ b. unwrap_or (cond b (Some e.1) (lookup (is_at (key_cmp key)) counts)) 0) f in
         let one : 1 ≤ e.1 = All-head (λ (count : ℕ). 1 ≤ count) e.1 (values_of counts) all in
         omega (arith, g, one)
     go false f later =
-        let g : count_of (e ∷ counts) key ≡ count_of counts key = ap (λ b. unwrap_or (cond b (Some e.1) (lookup (is_at (key_cmp key)) counts)) 0) f in
-        ⊎_elim
-        (λ (s : ◌≡◌ {A = Key × ℕ} (key, n) e). absurd (true≢false (sym (subst (λ x. is_eq (key_cmp key x) ≡ true) (ap (λ (p : Key × ℕ). p.0) s) (is_self key)) ∙ f)))
+        let g : count_of (e ∷ counts) key ≡ count_of counts key =
+        ap (λ b. unwrap_or (cond b (Some e.1) (lookup (is_at (key_cmp key)) counts)) 0) f in
+        ⊎_elim (λ (s : ◌≡◌ {A = Key × ℕ} (key, n) e).
+        absurd
+        (true≢false (sym (subst (λ x. is_eq (key_cmp key x) ≡ true) (ap (λ (p : Key × ℕ). p.0) s) (is_self key)) ∙ f)))
         (λ (j : In (key, n) counts). let h = later j in omega (arith, g, h)) i
 
 -- where all was told, the counts are those of the open
-none_pending : (test : Delta → Bool) (lines : List ShardWithJobs) → Each (λ (line : ShardWithJobs). line.shard.deltas ≡ []) lines → count_by test (pending lines) ≡ 0
+none_pending : (test : Delta → Bool) (lines : List ShardWithJobs)
+    → Each (λ (line : ShardWithJobs). line.shard.deltas ≡ []) lines
+    → count_by test (pending lines) ≡ 0
 none_pending test lines none = ap (count_by test) (empty lines none)
   where
-    empty : (lines : List ShardWithJobs) → Each (λ (line : ShardWithJobs). line.shard.deltas ≡ []) lines → pending lines ≡ []
+    empty : (lines : List ShardWithJobs)
+        → Each (λ (line : ShardWithJobs). line.shard.deltas ≡ []) lines
+        → pending lines ≡ []
     empty [] none = refl
     empty (line ∷ lines) none = λ i. none line (inl refl) i ++ empty lines (λ l j. none l (inr j)) i
 
-pub counts_of_open : (counts : Counts) (lines : List ShardWithJobs) (key : Key) → Each (λ (line : ShardWithJobs). line.shard.deltas ≡ []) lines → count_of counts key + count_by (is_opening key) (pending lines) ≡ times key (open_keys lines) + count_by (is_closing key) (pending lines) → count_of counts key ≡ times key (open_keys lines)
-counts_of_open counts lines key none e = let a = none_pending (is_opening key) lines none in let b = none_pending (is_closing key) lines none in omega (arith, e, a, b)
+pub counts_of_open : (counts : Counts) (lines : List ShardWithJobs) (key : Key)
+    → Each (λ (line : ShardWithJobs). line.shard.deltas ≡ []) lines
+    → count_of counts key + count_by (is_opening key) (pending lines)
+    ≡ times key (open_keys lines) + count_by (is_closing key) (pending lines)
+    → count_of counts key ≡ times key (open_keys lines)
+counts_of_open counts lines key none e =
+    let a = none_pending (is_opening key) lines none in
+    let b = none_pending (is_closing key) lines none in
+    omega (arith, e, a, b)

@@ -17,7 +17,11 @@ running None = record { inc = 0; node = new_node (server_at pair 0 0) }
 running (Some None) = record { inc = 0; node = new_node (server_at pair 0 0) }
 running (Some (Some a)) = a
 
-lines_here : (m place : ℕ) → m < 2 → place < 1 → filter (is_for m (suc place)) order ≡ line_events pair (end_of pair prepared) 0 (running (slice_get (end_of pair prepared).nodes 0)) hi m (suc place)
+lines_here : (m place : ℕ)
+    → m < 2
+    → place < 1
+    → filter (is_for m (suc place)) order
+    ≡ line_events pair (end_of pair prepared) 0 (running (slice_get (end_of pair prepared).nodes 0)) hi m (suc place)
 unfolding counts_after delta_fault change_of winner busy_of key_line digits
 lines_here zero zero lt l = refl
 lines_here (suc zero) zero lt l = refl
@@ -25,13 +29,30 @@ lines_here (suc (suc m)) zero lt l = absurd (omega (arith, lt))
 lines_here m (suc place) lt l = absurd (omega (arith, l))
 
 only_lines : Each (HasLine pair) order
-only_lines x i = ⊎_elim (λ (e : x ≡ _). subst (HasLine pair) (sym e) (record { node = 0; place = 0; listed = omega arith; shard = omega arith; is = refl }))
-    (λ i. ⊎_elim (λ (e : x ≡ _). subst (HasLine pair) (sym e) (record { node = 0; place = 0; listed = omega arith; shard = omega arith; is = refl }))
-    (λ i. ⊎_elim (λ (e : x ≡ _). subst (HasLine pair) (sym e) (record { node = 1; place = 0; listed = omega arith; shard = omega arith; is = refl }))
-    (λ i. ⊎_elim (λ (e : x ≡ _). subst (HasLine pair) (sym e) (record { node = 1; place = 0; listed = omega arith; shard = omega arith; is = refl }))
-    (λ i. ⊎_elim (λ (e : x ≡ _). subst (HasLine pair) (sym e) (record { node = 1; place = 0; listed = omega arith; shard = omega arith; is = refl }))
-    (λ i. ⊎_elim (λ (e : x ≡ _). subst (HasLine pair) (sym e) (record { node = 1; place = 0; listed = omega arith; shard = omega arith; is = refl }))
-    (λ i. absurd i) i) i) i) i) i) i
+only_lines x i =
+    ⊎_elim (λ (e : x ≡ _).
+    subst (HasLine pair) (sym e) (record { node = 0; place = 0; listed = omega arith; shard = omega arith; is = refl }))
+    (λ i.
+    ⊎_elim (λ (e : x ≡ _).
+    subst (HasLine pair) (sym e) (record { node = 0; place = 0; listed = omega arith; shard = omega arith; is = refl }))
+    (λ i.
+    ⊎_elim (λ (e : x ≡ _).
+    subst (HasLine pair) (sym e) (record { node = 1; place = 0; listed = omega arith; shard = omega arith; is = refl }))
+    (λ i.
+    ⊎_elim (λ (e : x ≡ _).
+    subst (HasLine pair) (sym e) (record { node = 1; place = 0; listed = omega arith; shard = omega arith; is = refl }))
+    (λ i.
+    ⊎_elim (λ (e : x ≡ _).
+    subst (HasLine pair) (sym e) (record { node = 1; place = 0; listed = omega arith; shard = omega arith; is = refl }))
+    (λ i.
+    ⊎_elim (λ (e : x ≡ _).
+    subst (HasLine pair) (sym e) (record { node = 1; place = 0; listed = omega arith; shard = omega arith; is = refl }))
+    (λ i. absurd i) i)
+    i)
+    i)
+    i)
+    i)
+    i
 
 pub pair_settles : APairSettles
 unfolding counts_after delta_fault change_of winner busy_of key_line digits
@@ -39,7 +60,9 @@ pair_settles = record {
   not_yet = refl;
   settled = refl;
   roomy = refl;
-  right = λ a at. subst (λ (x : Running). IsOrder pair (end_of pair prepared) 0 x hi order) (ap running at) (record { lines = lines_here; only = only_lines });
+  right = λ a at.
+      subst (λ (x : Running). IsOrder pair (end_of pair prepared) 0 x hi order) (ap running at)
+      (record { lines = lines_here; only = only_lines });
   all_done = refl;
   placed = refl;
   one_missing = refl;

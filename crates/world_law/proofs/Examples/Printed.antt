@@ -55,14 +55,23 @@ writes_a_cut = record { lines = refl }
 -- ---- runs
 
 only : (name : List ℕ) → AreApart (name ∷ [])
-only name = AllPairs-cons (λ a b. a ≢ b) name [] (All-nil (λ other. name ≢ other)) (λ i j d low high. absurd (omega arith))
+only name =
+    AllPairs-cons (λ a b. a ≢ b) name [] (All-nil (λ other. name ≢ other)) (λ i j d low high. absurd (omega arith))
 
 pair_apart : IsCluster pair
 pair_apart = record {
-  apart = AllPairs-cons (λ a b. a ≢ b) (codes "n1") (codes "n2" ∷ []) (All-cons (λ other. codes "n1" ≢ other) (codes "n2") [] (λ same. true≢false (sym ((bytes_eq-Decides (codes "n1") (codes "n2")).1 same))) (All-nil (λ other. codes "n1" ≢ other))) (only (codes "n2"));
+  apart =
+      AllPairs-cons (λ a b. a ≢ b) (codes "n1") (codes "n2" ∷ [])
+      (All-cons (λ other. codes "n1" ≢ other) (codes "n2") []
+      (λ same. true≢false (sym ((bytes_eq-Decides (codes "n1") (codes "n2")).1 same)))
+      (All-nil (λ other. codes "n1" ≢ other)))
+      (only (codes "n2"));
 }
 
-pub all_runs : ((c : Cluster) → IsCluster c → (events : List Event) → Answers c (new_world c) events (outcomes_of_events c (new_world c) events) (world_after_events c (new_world c) events)) → ScriptsAreRuns
+pub all_runs : ((c : Cluster) → IsCluster c → (events : List Event)
+    → Answers c (new_world c) events (outcomes_of_events c (new_world c) events)
+    (world_after_events c (new_world c) events))
+    → ScriptsAreRuns
 all_runs run = record {
   restart = run pair pair_apart a_restart;
   shards = run alone alone_apart two_shards;

@@ -13,4 +13,6 @@ lives_open laws c set_up w carried life i none = go (is_open w.nodes life.id) re
   where
     go : (b : Bool) → is_open w.nodes life.id ≡ b → is_open w.nodes life.id ≡ true
     go true e = e
-    go false e = absurd (∥∥₁_elim carried (λ x y. absurd x) (λ r. true≢false (sym ((seen_over laws c set_up r.0 w r.1).sees.open_lives life i none) ∙ e)))
+    go false e =
+        absurd (∥∥₁_elim carried (λ x y. absurd x)
+        (λ r. true≢false (sym ((seen_over laws c set_up r.0 w r.1).sees.open_lives life i none) ∙ e)))

@@ -45,10 +45,22 @@ abbrev pub own_id : names.LifeId → LifeId
 own_id id = record { node = id.node; inc = id.inc; sub = record { shard = suc id.shard; serial = id.serial } }
 
 abbrev pub life_of : Life → history.Life
-life_of l = record { id = law_id l.id; connection = l.conn; sid = l.sid; pattern = l.key.pattern; queue = l.key.queue; opened = l.opened }
+life_of l = record {
+  id = law_id l.id;
+  connection = l.conn;
+  sid = l.sid;
+  pattern = l.key.pattern;
+  queue = l.key.queue;
+  opened = l.opened;
+}
 
 abbrev pub own_content : messages.Content → Content
-own_content content = record { subject = content.subject; reply = content.reply; headers = content.headers; payload = content.payload }
+own_content content = record {
+  subject = content.subject;
+  reply = content.reply;
+  headers = content.headers;
+  payload = content.payload;
+}
 
 -- its bytes are those of the content and the sid, in the form that its connection took
 pub record SeesPlacement (c : Cluster) (p : Placement) (q : history.Placement) : Type 0 where
@@ -65,13 +77,15 @@ abbrev pub seen_node : Cluster → ℕ → Option Running → law.Node
 seen_node c n None = cluster.no_node
 seen_node c n (Some a) = node_of (server_at c n a.inc) a.node
 
--- ---- the whole: the lists are the same, a subscription that has not closed is open, and one that has closed did so for the
--- law too; and each server that is up is sound
+-- ---- the whole: the lists are the same, a subscription that has not closed is open, and one that has closed did so
+-- for the law too; and each server that is up is sound
 
 pub record Sees (c : Cluster) (w : World) (v : cluster.World) : Type 0 where
   pub step : v.step ≡ w.step
   pub size : length w.nodes ≡ length c.names
-  pub nodes : (n : ℕ) (node : Option Running) → slice_get w.nodes n ≡ Some node → slice_get v.nodes n ≡ Some (seen_node c n node)
+  pub nodes : (n : ℕ) (node : Option Running)
+      → slice_get w.nodes n ≡ Some node
+      → slice_get v.nodes n ≡ Some (seen_node c n node)
   pub sound : (n : ℕ) (a : Running) → slice_get w.nodes n ≡ Some (Some a) → SoundNode (server_at c n a.inc) a.node
   pub started : v.past.started ≡ w.started
   pub publications : v.past.publications ≡ map (publication_of c) w.publications
@@ -79,7 +93,8 @@ pub record Sees (c : Cluster) (w : World) (v : cluster.World) : Type 0 where
   pub lives : v.past.lives ≡ map life_of w.lives
   pub numbered : Each (λ l. l.id ≡ own_id (law_id l.id)) w.lives
   pub open_lives : Each (λ l. l.closed ≡ None → is_open w.nodes l.id ≡ true) w.lives
-  pub closed_lives : Each (λ l. (k : ℕ) → l.closed ≡ Some k → In (record { life = law_id l.id; step = k }) v.past.closings) w.lives
+  pub closed_lives :
+      Each (λ l. (k : ℕ) → l.closed ≡ Some k → In (record { life = law_id l.id; step = k }) v.past.closings) w.lives
   pub listed : Each (λ p. place_in p.id.origin c.names < length c.names) w.publications
   pub placements : Along (SeesPlacement c) w.placements v.past.placements
 

@@ -9,7 +9,8 @@ use Rattle.node_law.specs.AsLaw.{line_of, IsStarted}
 use Rattle.node_law.specs.State.{lines_from}
 use Rattle.node_law.proofs.Runs.Sound.{starts_sound}
 
-lines_seen : (server : ServerIdentity) (first count : ℕ) → map (line_of server) (lines_from server.shards first count) ≡ replicate count cluster.new_shard
+lines_seen : (server : ServerIdentity) (first count : ℕ)
+    → map (line_of server) (lines_from server.shards first count) ≡ replicate count cluster.new_shard
 lines_seen server first zero = refl
 lines_seen server first (suc count) = ap (λ t. cluster.new_shard ∷ t) (lines_seen server (suc first) count)
 

@@ -9,24 +9,50 @@ use Rattle.pattern_trie.proofs.PatternTrie.insert.Goals as goal
 pub invariant_of-self : goal.invariant_of-self
 invariant_of-self g c =
     let same : IsSame c.args.self.now.nodes c.enter_all.new.nodes = search rules in
-    record { filled = ∥∥₁_map c.args.self.now.filled (λ h. (h.0, same_filled h.0 c.args.self.now.nodes c.enter_all.new.nodes h.1 same)) }
+    record {
+      filled =
+          ∥∥₁_map c.args.self.now.filled
+          (λ h. (h.0, same_filled h.0 c.args.self.now.nodes c.enter_all.new.nodes h.1 same));
+    }
 
 pub invariant_of-self-then-is_err : goal.invariant_of-self-then-is_err
 invariant_of-self-then-is_err g c =
-    let entered : EntersEach (λ q. is_beginning q c.bytes-text.result.now) (λ k q. is_beginning (beginning_with_rest k q) c.bytes-text.result.now) c.args.self.now.nodes c.enter_all.new.nodes = search rules in
+    let entered : EntersEach (λ q. is_beginning q c.bytes-text.result.now)
+    (λ k q. is_beginning (beginning_with_rest k q) c.bytes-text.result.now) c.args.self.now.nodes
+    c.enter_all.new.nodes = search rules in
     let same : IsSame c.enter_all.new.nodes c.push_value.new.nodes = search rules in
-    record { filled = ∥∥₁_map c.args.self.now.filled (λ h. (h.0, left_again h.0 c.bytes-text.result.now c.args.self.now.nodes c.enter_all.new.nodes c.push_value.new.nodes c.leave_all.new.nodes h.1 entered same c.leave_all.ensures)) }
+    record {
+      filled =
+          ∥∥₁_map c.args.self.now.filled (λ h. (
+            h.0,
+            left_again h.0 c.bytes-text.result.now c.args.self.now.nodes c.enter_all.new.nodes c.push_value.new.nodes
+                c.leave_all.new.nodes h.1 entered same c.leave_all.ensures,
+          ));
+    }
 
 pub invariant_of-self-else-is_err : goal.invariant_of-self-else-is_err
 invariant_of-self-else-is_err g c =
     let text = c.bytes-text.result.now in
-    let entered : EntersEach (λ q. is_beginning q text) (λ k q. is_beginning (beginning_with_rest k q) text) c.args.self.now.nodes c.enter_all.new.nodes = search rules in
-    let put : Values text (values_at c.enter_all.new.nodes text ++ c.args.value ∷ []) c.enter_all.new.nodes c.push_value.new.nodes = search rules in
-    record { filled = ∥∥₁_map c.args.self.now.filled (λ h. (h.0 ++ (text, c.args.value) ∷ [], pushed g.V.PartialEq.eq text c.args.value h.0 c.args.self.now.nodes c.enter_all.new.nodes c.push_value.new.nodes h.1 entered put)) }
+    let entered : EntersEach (λ q. is_beginning q text) (λ k q. is_beginning (beginning_with_rest k q) text)
+    c.args.self.now.nodes c.enter_all.new.nodes = search rules in
+    let put : Values text (values_at c.enter_all.new.nodes text ++ c.args.value ∷ []) c.enter_all.new.nodes
+    c.push_value.new.nodes = search rules in
+    record {
+      filled =
+          ∥∥₁_map c.args.self.now.filled (λ h. (
+            h.0 ++ (text, c.args.value) ∷ [],
+            pushed g.V.PartialEq.eq text c.args.value h.0 c.args.self.now.nodes c.enter_all.new.nodes
+                c.push_value.new.nodes h.1 entered put,
+          ));
+    }
 
 pub returns-clause-ok : goal.returns-clause-ok
 returns-clause-ok g c = λ held is.
     let text = c.bytes-text.result.now in
-    let entered : EntersEach (λ q. is_beginning q text) (λ k q. is_beginning (beginning_with_rest k q) text) c.args.self.now.nodes c.enter_all.new.nodes = search rules in
-    let put : Values text (values_at c.enter_all.new.nodes text ++ c.args.value ∷ []) c.enter_all.new.nodes c.push_value.new.nodes = search rules in
-    subst (λ t. Holds (held ++ (t, c.args.value) ∷ []) c.push_value.new.nodes) c.bytes-text.ensures.same (pushed g.V.PartialEq.eq text c.args.value held c.args.self.now.nodes c.enter_all.new.nodes c.push_value.new.nodes is entered put)
+    let entered : EntersEach (λ q. is_beginning q text) (λ k q. is_beginning (beginning_with_rest k q) text)
+    c.args.self.now.nodes c.enter_all.new.nodes = search rules in
+    let put : Values text (values_at c.enter_all.new.nodes text ++ c.args.value ∷ []) c.enter_all.new.nodes
+    c.push_value.new.nodes = search rules in
+    subst (λ t. Holds (held ++ (t, c.args.value) ∷ []) c.push_value.new.nodes) c.bytes-text.ensures.same
+    (pushed g.V.PartialEq.eq text c.args.value held c.args.self.now.nodes c.enter_all.new.nodes c.push_value.new.nodes
+    is entered put)

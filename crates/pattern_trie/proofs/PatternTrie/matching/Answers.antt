@@ -12,7 +12,15 @@ returns g c = λ held is.
     let subject = c.args.subject.now in
     let found = c.args.found.now.items in
     let all = permuted subject held c.bytes-text.ensures.valid (some_tokens subject) in
-    let moved : IsPermutation (found ++ matching_values subject held) (found ++ values_under held [] (matchers (tokens subject))) = IsPermutation-append_right found (matching_values subject held) (values_under held [] (matchers (tokens subject))) all in
+    let moved :
+    IsPermutation (found ++ matching_values subject held) (found ++ values_under held [] (matchers (tokens subject))) =
+    IsPermutation-append_right found (matching_values subject held) (values_under held [] (matchers (tokens subject)))
+    all in
     on_ok c.gather.result _ _
-    (λ e. subst (IsPermutation (found ++ matching_values subject held)) (sym (◌∙◌ {A = List g.row.V.Denot} e (ap (λ p. found ++ values_under held p (matchers (tokens c.bytes-text.result.now))) c.in_ok-path.ensures.items ∙ ap (λ t. found ++ values_under held [] (matchers (tokens t))) c.bytes-text.ensures.same))) moved)
+    (λ e.
+    subst (IsPermutation (found ++ matching_values subject held))
+    (sym (◌∙◌ {A = List g.row.V.Denot} e
+    (ap (λ p. found ++ values_under held p (matchers (tokens c.bytes-text.result.now))) c.in_ok-path.ensures.items
+    ∙ ap (λ t. found ++ values_under held [] (matchers (tokens t))) c.bytes-text.ensures.same)))
+    moved)
     (c.gather.ensures.found held is)

@@ -9,4 +9,5 @@ loop-session-preserved c =
     let xs = c.loop-session.session-items in
     let i = c.loop-session.session-index in
     let x = c.session-item.result in
-    ap (set xs i) (c.kept_at.ensures ∙ ap f (sym c.session-item.is)) ∙ map_over_more f c.args.standing.now xs i x (omega arith) c.loop-session.invariant c.session-item.is
+    ap (set xs i) (c.kept_at.ensures ∙ ap f (sym c.session-item.is))
+    ∙ map_over_more f c.args.standing.now xs i x (omega arith) c.loop-session.invariant c.session-item.is

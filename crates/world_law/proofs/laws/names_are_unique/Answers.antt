@@ -5,4 +5,8 @@ use Rattle.world_law.proofs.Seen.Whole.{laws_of, seen_over, is_reached, names_of
 use Rattle.world_law.proofs.laws.names_are_unique.Goals as goal
 
 pub returns : goal.returns
-returns c = λ l set_up events w run. let o = seen_over (laws_of c.servers_follow_the_law.ensures c.servers_stay_sound.ensures c.entries_are_put.ensures) l set_up events w run in let r = is_reached l w (passed_events l (new_world l) events w run) o in names_of l w o.seen o.sees (c.names_are_unique.ensures (law_for l) o.seen r)
+returns c = λ l set_up events w run.
+    let o = seen_over (laws_of c.servers_follow_the_law.ensures c.servers_stay_sound.ensures c.entries_are_put.ensures)
+    l set_up events w run in
+    let r = is_reached l w (passed_events l (new_world l) events w run) o in
+    names_of l w o.seen o.sees (c.names_are_unique.ensures (law_for l) o.seen r)

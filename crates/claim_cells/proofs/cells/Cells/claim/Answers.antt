@@ -5,4 +5,6 @@ use Rattle.claim_cells.proofs.SeatSteps.Kept.{sighted}
 use Rattle.claim_cells.proofs.cells.Cells.claim.Goals as goal
 
 pub claim_at-won-requires-clause-seen : goal.claim_at-won-requires-clause-seen
-claim_at-won-requires-clause-seen c = sighted (part_of c.seat.inside.place.me) (subst (λ (v : ShardShown). HasTurn v.part) (sym c.seat.view_is) c.requires.turn)
+claim_at-won-requires-clause-seen c =
+    sighted (part_of c.seat.inside.place.me)
+    (subst (λ (v : ShardShown). HasTurn v.part) (sym c.seat.view_is) c.requires.turn)

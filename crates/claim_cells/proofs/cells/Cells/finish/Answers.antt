@@ -5,4 +5,6 @@ use Rattle.claim_cells.proofs.SeatSteps.Kept.{sighted}
 use Rattle.claim_cells.proofs.cells.Cells.finish.Goals as goal
 
 pub finish_at-requires-clause-seen : goal.finish_at-requires-clause-seen
-finish_at-requires-clause-seen c = sighted (part_of c.seat.inside.place.me) (subst (λ (v : ShardShown). HasTurn v.part) (sym c.seat.view_is) c.requires.turn)
+finish_at-requires-clause-seen c =
+    sighted (part_of c.seat.inside.place.me)
+    (subst (λ (v : ShardShown). HasTurn v.part) (sym c.seat.view_is) c.requires.turn)

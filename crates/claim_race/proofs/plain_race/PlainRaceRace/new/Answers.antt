@@ -11,11 +11,15 @@ returns c =
     let start : Progress = record { finished = c.zero.result; next = 0 } in
     let size : ℕ = WINDOW * MAX_QUEUE_NAMES in
     let same : c.in_ok-progress.progress.items ≡ replicate c.args.shards start = search rules in
-    let free : c.in_ok-table.table.items ≡ replicate size None = c.in_ok-table.ensures.items_if_clones_equal (elim [ None ↦ λ h. refl | Some x ↦ λ h. absurd h ]) in
-    begins c.args.shards c.zero-2.result c.in_ok-progress.progress.items c.in_ok-table.table.items start c.zero-2.ensures same c.zero.ensures refl (ap wins_in free ∙ none_won size)
+    let free : c.in_ok-table.table.items ≡ replicate size None =
+    c.in_ok-table.ensures.items_if_clones_equal (elim [ None ↦ λ h. refl | Some x ↦ λ h. absurd h ]) in
+    begins c.args.shards c.zero-2.result c.in_ok-progress.progress.items c.in_ok-table.table.items start
+    c.zero-2.ensures same c.zero.ensures refl (ap wins_in free ∙ none_won size)
 
 pub invariant_of-result : goal.invariant_of-result
 invariant_of-result c =
     let size : ℕ = WINDOW * MAX_QUEUE_NAMES in
-    let same : c.in_ok-table.table.items ≡ replicate size None = c.in_ok-table.ensures.items_if_clones_equal (elim [ None ↦ λ h. refl | Some x ↦ λ h. absurd h ]) in
-    starts size c.zero-2.result (finished_in c.in_ok-progress.progress.items) c.in_ok-table.table.items c.zero-2.ensures same refl
+    let same : c.in_ok-table.table.items ≡ replicate size None =
+    c.in_ok-table.ensures.items_if_clones_equal (elim [ None ↦ λ h. refl | Some x ↦ λ h. absurd h ]) in
+    starts size c.zero-2.result (finished_in c.in_ok-progress.progress.items) c.in_ok-table.table.items c.zero-2.ensures
+    same refl

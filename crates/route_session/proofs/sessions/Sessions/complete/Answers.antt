@@ -11,7 +11,13 @@ pub invariant_of-self : goal.invariant_of-self
 invariant_of-self c =
     let server = c.self.inside.server in
     let offer = c.args.offer in
-    let s : State = record { numbers = c.self.inside.numbers; dials = c.self.inside.dials; standing = c.self.inside.standing.items } in
+    let s : State = record {
+      numbers = c.self.inside.numbers;
+      dials = c.self.inside.dials;
+      standing = c.self.inside.standing.items;
+    } in
     let left : State = record s { standing = filter (is_not_of_peer offer.peer) s.standing } in
-    let peer : is_peer server offer.peer ≡ true = ap (λ (t : Served). is_peer t.server offer.peer) c.self.view_is ∙ c.requires in
-    subst (λ xs. AreSessions server (record s { standing = xs })) (sym c.complete.ensures) (one_kept server left c.get.result offer peer (some_end server s (is_not_of_peer offer.peer) c.self.invariant))
+    let peer : is_peer server offer.peer ≡ true =
+    ap (λ (t : Served). is_peer t.server offer.peer) c.self.view_is ∙ c.requires in
+    subst (λ xs. AreSessions server (record s { standing = xs })) (sym c.complete.ensures)
+    (one_kept server left c.get.result offer peer (some_end server s (is_not_of_peer offer.peer) c.self.invariant))

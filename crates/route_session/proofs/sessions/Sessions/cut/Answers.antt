@@ -12,12 +12,24 @@ use Rattle.route_session.proofs.sessions.Sessions.cut.Goals as goal
 
 pub invariant_of-self : goal.invariant_of-self
 invariant_of-self c =
-    let s : State = record { numbers = c.self.inside.numbers; dials = c.self.inside.dials; standing = c.self.inside.standing.items } in
-    subst (λ xs. AreSessions c.self.inside.server (record s { standing = xs })) (sym c.end.ensures) (some_end c.self.inside.server s (is_another c.get-2.result) c.self.invariant)
+    let s : State = record {
+      numbers = c.self.inside.numbers;
+      dials = c.self.inside.dials;
+      standing = c.self.inside.standing.items;
+    } in
+    subst (λ xs. AreSessions c.self.inside.server (record s { standing = xs })) (sym c.end.ensures)
+    (some_end c.self.inside.server s (is_another c.get-2.result) c.self.invariant)
 
 pub returns-clause-peer : goal.returns-clause-peer
 returns-clause-peer c =
-    let s : State = record { numbers = c.self.inside.numbers; dials = c.self.inside.dials; standing = c.self.inside.standing.items } in
+    let s : State = record {
+      numbers = c.self.inside.numbers;
+      dials = c.self.inside.dials;
+      standing = c.self.inside.standing.items;
+    } in
     let at : session_at c.get.result s.standing ≡ Some c.in-Some.ended = search rules in
     let peer = peer_found c.self.inside.server s c.get.result c.in-Some.ended c.self.invariant at in
-    subst (λ o. IfSome o (λ q. is_peer c.args.self.now.server q ≡ true)) (sym c.peer.ensures) (subst (λ (t : Served). IfSome (option_map (λ (offer : Offer). offer.peer) c.in-Some.ended.kept) (λ q. is_peer t.server q ≡ true)) c.self.view_is peer)
+    subst (λ o. IfSome o (λ q. is_peer c.args.self.now.server q ≡ true)) (sym c.peer.ensures)
+    (subst (λ (t : Served).
+    IfSome (option_map (λ (offer : Offer). offer.peer) c.in-Some.ended.kept) (λ q. is_peer t.server q ≡ true))
+    c.self.view_is peer)

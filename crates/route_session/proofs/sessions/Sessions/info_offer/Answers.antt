@@ -10,7 +10,9 @@ returns c =
     let info = c.args.info.now in
     let session : Session = c.in-Some.session in
     let q = c.in-Some-dialed.dialed in
-    let there : open_session c.args.session s.state.standing ≡ Some session = sym c.open_at.ensures.same ∙ c.in-Some.is in
+    let there : open_session c.args.session s.state.standing ≡ Some session =
+    sym c.open_at.ensures.same ∙ c.in-Some.is in
     let dialed : session.dialed ≡ Some q = search rules in
     let name : peer_of s.server info.server_name ≡ Some q = search rules in
-    info_decided s c.args.session info c.args.least session q c.offer_of_info.result c.if_better.result there c.in-Some.ensures.dial dialed name (search rules) (search rules) c.if_better.ensures
+    info_decided s c.args.session info c.args.least session q c.offer_of_info.result c.if_better.result there
+    c.in-Some.ensures.dial dialed name (search rules) (search rules) c.if_better.ensures
