@@ -6,6 +6,8 @@ pub mod Operations
 pub mod Choices
 -- client spelling: what a control line of a client asks for, or why it is refused
 pub mod Lines
+-- the line of a publication that was read last
+pub mod LastLine
 -- the numbers 20 to 24 of the refusals
 pub mod Faults
 -- the texts of `-ERR`, and which of them end a connection

@@ -1,6 +1,7 @@
 //! Reading control lines: operations, the fields behind them, and what the text of a `CONNECT` chooses.
 
-ghost use Rattle.std.specs.Prelude.{◌≡◌, None, Some, MatchOption, IfOk, option_map, ⊤, is_some, if◌then◌else◌, OnErr};
+ghost use Rattle.std.specs.Prelude.{◌≡◌, None, Some, MatchOption, IfOk, IfSome, Ok, option_map, ⊤, is_some, if◌then◌else◌, OnErr};
+ghost use Rattle.client_frames.specs.declared.client_line.ClientLine.TheVariants.{Pub};
 ghost use Rattle.client_frames.specs.Operations.{operation_of};
 ghost use Rattle.std.specs.Option.{option_copied};
 ghost use Rattle.line_fields.specs.Fields.{fields};
@@ -13,6 +14,7 @@ ghost use Rattle.client_frames.specs.Lines.{ClientLineMeans, line_meaning, opera
 
 use crate::client_line::{ClientLine, Options, PubHead};
 use crate::faults::LineFault;
+use crate::last_line::LastLine;
 use bytes::{Bytes, BytesMut};
 use line_fields::{is_word, read_digits, split_field, split_line};
 use serde_json::Value;
@@ -217,6 +219,9 @@ pub struct SharedTexts {
     pub(crate) alloc: Global,
     block: BytesMut,
     last_subject: Option<Subject>,
+    /// Whether the subject that was read last was the one that is kept.
+    is_again: bool,
+    last_line: LastLine,
 }
 
 impl Model for SharedTexts {
@@ -232,6 +237,42 @@ impl SharedTexts {
             alloc,
             block: BytesMut::new(alloc),
             last_subject: None,
+            is_again: false,
+            last_line: LastLine::new(alloc),
+        }
+    }
+
+    /// What the line announces, where it is the line that was read last, and its subject is kept: neither is read again.
+    #[inline(always)]
+    fn head_again(&mut self, line: &[u8]) -> Option<PubHead>
+        ensures { IfSome result (λ head. line_meaning line.now ≡ Ok (Pub head)) }
+    {
+        let size = match &self.last_subject {
+            None => None,
+            Some(subject) => self.last_line.size_of(line, subject.bytes()),
+        };
+        let size = size?;
+        let subject = self.last_subject.take()?;
+        Some(PubHead {
+            subject,
+            reply: None,
+            headers: None,
+            size,
+        })
+    }
+
+    /// Notes what a line means, where it announces a publication without a reply and without a header block, on the subject of the one
+    /// before it.
+    fn note_line(&mut self, line: &[u8], meaning: &Result<ClientLine, Failure<LineFault>>)
+        requires { ClientLineMeans (line_meaning line.now) meaning.now }
+    {
+        if !self.is_again {
+            return;
+        }
+        if let Ok(ClientLine::Pub(head)) = meaning {
+            if head.reply.is_none() && head.headers.is_none() {
+                self.last_line.note(line, head.subject.bytes(), head.size);
+            }
         }
     }
 
@@ -275,8 +316,10 @@ impl SharedTexts {
             subject ≡ (if is_some (subject_fault text.now) then None else Some text.now)) }
         ensures err { OnErr result (subject_fault text.now ≡ None) }
     {
+        self.is_again = false;
         if let Some(last) = self.last_subject.take() {
             if last.bytes() == text {
+                self.is_again = true;
                 return Ok(Some(last));
             }
         }
@@ -302,6 +345,19 @@ const COUNT_DIGITS: usize = 10;
 /// Want of memory comes only for a command that keeps names, and for the JSON of a `CONNECT`, good or
 /// bad. All other tests come before the first allocation. The subjects of publications share the memory of the texts.
 pub fn decode_line(texts: &mut SharedTexts, line: &[u8]) -> Result<ClientLine, Failure<LineFault>>
+    ensures { ClientLineMeans (line_meaning line.now) result }
+{
+    if let Some(head) = texts.head_again(line) {
+        return Ok(ClientLine::Pub(head));
+    }
+    let meaning = decode_new(texts, line);
+    texts.note_line(line, &meaning);
+    meaning
+}
+
+/// The same of a line that is read for the first time.
+#[inline(always)]
+fn decode_new(texts: &mut SharedTexts, line: &[u8]) -> Result<ClientLine, Failure<LineFault>>
     ensures { ClientLineMeans (line_meaning line.now) result }
 {
     let Some((field, text)) = split_line(line) else {

@@ -8,7 +8,7 @@
 //! }
 //! ```
 //!
-//! In reading order: `decoding` reads a line, as a `client_line` or one of the `faults`; `err_texts` says what is told of these.
+//! In reading order: `decoding` reads a line, as a `client_line` or one of the `faults`, unless it is the `last_line` again; `err_texts` says what is told of these.
 //! `server_frames` are what is sent, which `server_info`, `info`, `encoding` and `message_parts` write.
 #![tactic(auto)]
 
@@ -18,6 +18,7 @@ mod encoding;
 mod err_texts;
 mod faults;
 mod info;
+mod last_line;
 mod laws;
 mod message_parts;
 mod server_frames;
