@@ -1,10 +1,15 @@
 -- What is taken of a shard for its clients, and sent to them.
-use Rattle.std.specs.Prelude.{◌≡◌, ◌⊎◌, ℕ, ◌-◌, ◌^◌, List, [], ◌∷◌, ◌++◌, Option, Some, None, MatchOption}
+use Rattle.std.specs.Prelude.{◌≡◌, ◌⊎◌, ℕ, zero, suc, ◌-◌, ◌^◌, ◌≤◌, true, false, nat_eq, if◌then◌else◌, List, [], ◌∷◌, ◌++◌, map, length, slice_range, Option, Some, None, MatchOption, Result, Ok, Err, IfOk}
+use Rattle.std.specs.List.{range_with_len}
+use Rattle.std.specs.declared.alloc.AllocError.{AllocError}
 use Rattle.slab.specs.Slab.{Slab, get}
 use Rattle.net_streams.specs.Writes.{Came}
 use Rattle.node_net.specs.Keyed.{ChangesAt, Behind, EachStays}
 use Rattle.node_net.specs.Sending.{SendsTaken, KeepsStream, Rests, IsNoted}
 use Rattle.node_net.specs.declared.connection.Connection.{Connection}
+use Rattle.node_net.specs.declared.connections.Connections.{Connections}
+use Rattle.node_net.specs.declared.flushing.Awaited.{Awaited}
+use Rattle.node_net.specs.declared.flushing.Awaited.TheVariants as awaited
 use Rattle.node_net.specs.declared.connection.Link.{Link}
 use Rattle.node_net.specs.declared.connection.Link.TheVariants as link
 use Rattle.node_net.specs.declared.taken.Taken.{Taken}
@@ -20,28 +25,58 @@ last_part (Some key) bytes = (key, bytes) ∷ []
 abbrev pub all_parts : Taken → List (ℕ × List ℕ)
 all_parts taken = taken.parts ++ last_part taken.last taken.lent.items
 
+-- ---- which connections are looked at
+
+-- the keys of connections for which something may wait, in order
+abbrev pub keys_of : Awaited → List ℕ
+keys_of (awaited.All count) = range_with_len 0 count
+keys_of (awaited.These keys) = keys.now
+
 -- ---- what a shard gives
 
--- At the other end is the client of this number, who is of this shard.
-abbrev pub IsClientOf : Link → ℕ → ℕ → Type 0
-IsClientOf (link.Client client) shard conn = (client.shard ≡ shard) × (client.calls.id ≡ conn)
-IsClientOf (link.Route route) shard conn = ⊥
+-- the client at the other end, where it is of this shard
+abbrev pub client_in : ℕ → Link → Option ℕ
+client_in shard (link.Client client) =
+    if nat_eq client.shard shard then Some client.calls.id else None
+client_in shard (link.Route route) = None
 
--- A client's own shard is asked for all that waits for it, and gives these bytes; or nothing is
--- asked for, and there are none.
-abbrev pub Gives : {H : Type 0} → (H → ℕ → ℕ → List ℕ → H → Type 0) → (H → ℕ) → Link → H → List ℕ
-    → H → Type 0
-Gives takes number (link.Client client) before bytes after =
-    ((number before ≡ client.shard) × takes before client.calls.id (2 ^ 64 - 1) bytes after)
-    ⊎ ((bytes ≡ []) × (after ≡ before))
-Gives takes number (link.Route route) before bytes after = (bytes ≡ []) × (after ≡ before)
+-- This client is at the other end, and is of this shard. All that was sent to it before is written,
+-- and its stream has not failed.
+abbrev pub IsAsked : {S : Type 0} → ℕ → Connection S → ℕ → Type 0
+IsAsked shard c conn =
+    (client_in shard c.link ≡ Some conn) × (c.out ≡ []) × (c.wire.has_failed ≡ false)
 
--- So it is for the connection at this key.
+-- No client of this shard is, or something that was sent to it before waits still, or its stream
+-- has failed.
+abbrev pub IsLeft : {S : Type 0} → ℕ → Connection S → Type 0
+IsLeft shard c =
+    (client_in shard c.link ≡ None) ⊎ ((¬ (c.out ≡ [])) ⊎ (c.wire.has_failed ≡ true))
+
+-- A shard is asked for all that waits for the client of a connection, and gives these bytes; or it
+-- is not to be asked for it, and there are none.
+abbrev pub Gives : {H S : Type 0} → (H → ℕ → ℕ → List ℕ → H → Type 0) → (H → ℕ) → Connection S → H
+    → List ℕ → H → Type 0
+Gives takes number c before bytes after =
+    ((conn : ℕ) × IsAsked (number before) c conn × takes before conn (2 ^ 64 - 1) bytes after)
+    ⊎ (IsLeft (number before) c × (bytes ≡ []) × (after ≡ before))
+
+-- So it is for the connection at this key, where there is one.
 abbrev pub GivesAt : {H S : Type 0} → (H → ℕ → ℕ → List ℕ → H → Type 0) → (H → ℕ)
     → Slab (Connection S) → ℕ → H → List ℕ → H → Type 0
 GivesAt takes number table key before bytes after =
     MatchOption (get table key) ((bytes ≡ []) × (after ≡ before))
-    (λ connection. Gives takes number connection.link before bytes after)
+    (λ connection. Gives takes number connection before bytes after)
+
+-- What is given stands behind what stood there.
+abbrev pub Lends : {H S : Type 0} → (H → ℕ → ℕ → List ℕ → H → Type 0) → (H → ℕ) → Connection S
+    → List ℕ → H → List ℕ → H → Type 0
+Lends takes number c had before has after =
+    (bytes : List ℕ) × (has ≡ had ++ bytes) × Gives takes number c before bytes after
+
+abbrev pub LendsAt : {H S : Type 0} → (H → ℕ → ℕ → List ℕ → H → Type 0) → (H → ℕ)
+    → Slab (Connection S) → ℕ → List ℕ → H → List ℕ → H → Type 0
+LendsAt takes number table key had before has after =
+    (bytes : List ℕ) × (has ≡ had ++ bytes) × GivesAt takes number table key before bytes after
 
 -- So it is for the connections at these keys, one after the other.
 abbrev pub GivesEach : {H S : Type 0} → (H → ℕ → ℕ → List ℕ → H → Type 0) → (H → ℕ)
@@ -73,32 +108,46 @@ pub record TakesOne {H S : Type 0} (takes : H → ℕ → ℕ → List ℕ → H
   pub puts : PutsPart had key bytes has
   pub kept : EachStays KeepsStream old new
 
--- What waits for some connections is, and these parts stand behind those that were taken before.
+-- What waits for the connections at these keys is taken, for one after the other, and these parts
+-- stand behind those that were taken before.
 pub record TakesSome {H S : Type 0} (takes : H → ℕ → ℕ → List ℕ → H → Type 0) (number : H → ℕ)
-    (old : Slab (Connection S)) (before : H) (had : List (ℕ × List ℕ)) (new : Slab (Connection S))
-    (after : H) (has : List (ℕ × List ℕ)) : Type 0 where
+    (keys : List ℕ) (old : Slab (Connection S)) (before : H) (had : List (ℕ × List ℕ))
+    (new : Slab (Connection S)) (after : H) (has : List (ℕ × List ℕ)) : Type 0 where
   pub given : List (ℕ × List ℕ)
   pub parts : List (ℕ × List ℕ)
+  pub these : map (λ (one : ℕ × List ℕ). one.0) given ≡ keys
   pub gives : GivesEach takes number old before given after
   pub are : ArePartsOf given parts
   pub put : has ≡ had ++ parts
   pub kept : EachStays KeepsStream old new
 
--- These parts are, while the shard of this number is held.
-pub record TakesAtShard {H S : Type 0} (takes : H → ℕ → ℕ → List ℕ → H → Type 0) (number : H → ℕ)
-    (shard : ℕ) (old : Slab (Connection S)) (parts : List (ℕ × List ℕ))
-    (new : Slab (Connection S)) : Type 0 where
-  pub before : H
-  pub after : H
-  pub is : number before ≡ shard
-  pub some : TakesSome takes number old before [] new after parts
+-- What waits for the connections at those of these keys that stand between two places is taken. The
+-- first place is this one, and the other is where it is gone on with, unless there was no memory.
+pub record TakesOn {H S : Type 0} (takes : H → ℕ → ℕ → List ℕ → H → Type 0) (number : H → ℕ)
+    (keys : List ℕ) (place : ℕ) (came : Result ℕ AllocError) (old : Slab (Connection S))
+    (before : H) (had : List (ℕ × List ℕ)) (new : Slab (Connection S)) (after : H)
+    (has : List (ℕ × List ℕ)) : Type 0 where
+  pub stop : ℕ
+  pub some : TakesSome takes number (slice_range keys place stop) old before had new after has
+  pub ends : IfOk came (λ next. next ≡ stop)
 
--- So it is, unless there is no such shard.
+-- That is done while the shard of this number is held.
+pub record TakesAtShard {H S : Type 0} (takes : H → ℕ → ℕ → List ℕ → H → Type 0) (number : H → ℕ)
+    (shard : ℕ) (keys : List ℕ) (place : ℕ) (came : Result ℕ AllocError)
+    (old : Slab (Connection S)) (parts : List (ℕ × List ℕ)) (new : Slab (Connection S)) : Type 0
+  where
+    pub before : H
+    pub after : H
+    pub is : number before ≡ shard
+    pub on : TakesOn takes number keys place came old before [] new after parts
+
+-- So it is, unless there is no such shard, of which nothing waits for any.
 abbrev pub TakesParts : {H S : Type 0} → (H → ℕ → ℕ → List ℕ → H → Type 0) → (H → ℕ)
-    → (ℕ → Type 0) → ℕ → Slab (Connection S) → List (ℕ × List ℕ) → Slab (Connection S) → Type 0
-TakesParts takes number lacks shard old parts new =
-    TakesAtShard takes number shard old parts new
-    ⊎ (lacks shard × (parts ≡ []) × (new ≡ old))
+    → (ℕ → Type 0) → ℕ → List ℕ → ℕ → Result ℕ AllocError → Slab (Connection S)
+    → List (ℕ × List ℕ) → Slab (Connection S) → Type 0
+TakesParts takes number lacks shard keys place came old parts new =
+    TakesAtShard takes number shard keys place came old parts new
+    ⊎ (lacks shard × (parts ≡ []) × (new ≡ old) × (came ≡ Ok (length keys)))
 
 -- ---- what is sent
 
@@ -117,11 +166,47 @@ SendsEach {S} gave wrote old (part ∷ parts) new =
     × ChangesAt (SendsPart gave wrote part.1) part.0 old mid
     × SendsEach gave wrote mid parts new
 
--- Under one hold of the shard of this number parts are taken, and behind it just these are sent.
+-- It is noted that there was no memory for something, and that something may wait for any client.
+abbrev pub IsPutOff : {S : Type 0} → Connections S → Type 0
+IsPutOff connections = (connections.is_short ≡ true) × (connections.awaits_any ≡ true)
+
+-- It is gone on with at this place, of so many; where there was no memory none is left now, and all
+-- are looked at again later.
+abbrev pub GoesOnAt : {S : Type 0} → ℕ → Result ℕ AllocError → ℕ → Connections S → Type 0
+GoesOnAt count (Ok next) place connections = place ≡ next
+GoesOnAt count (Err lack) place connections = (place ≡ count) × IsPutOff connections
+
+-- Under one hold of the shard of this number parts are taken for the connections at some of these
+-- keys, from the first place on, and behind it just these parts are sent. The second place is where
+-- it is gone on with.
 pub record FlushesSome {H S : Type 0} (takes : H → ℕ → ℕ → List ℕ → H → Type 0) (number : H → ℕ)
-    (lacks : ℕ → Type 0) (gave wrote : S → Came → S → Type 0) (shard : ℕ)
-    (old new : Slab (Connection S)) : Type 0 where
+    (lacks : ℕ → Type 0) (gave wrote : S → Came → S → Type 0) (shard : ℕ) (keys : List ℕ)
+    (place next : ℕ) (old new : Connections S) : Type 0 where
+  pub came : Result ℕ AllocError
   pub parts : List (ℕ × List ℕ)
   pub mid : Slab (Connection S)
-  pub taken : TakesParts takes number lacks shard old parts mid
-  pub sent : SendsEach gave wrote mid parts new
+  pub taken : TakesParts takes number lacks shard keys place came old.table parts mid
+  pub sent : SendsEach gave wrote mid parts new.table
+  pub goes_on : GoesOnAt (length keys) came next new
+
+-- That is done so many times in a row, each time from the place on to which the time before has
+-- come.
+abbrev pub FlushesMany : {H S : Type 0} → (H → ℕ → ℕ → List ℕ → H → Type 0) → (H → ℕ)
+    → (ℕ → Type 0) → (S → Came → S → Type 0) → (S → Came → S → Type 0) → ℕ → List ℕ
+    → Connections S → ℕ → ℕ → Connections S → Type 0
+FlushesMany takes number lacks gave wrote shard keys old zero until new =
+    (until ≡ 0) × (new ≡ old)
+FlushesMany {H} {S} takes number lacks gave wrote shard keys old (suc rounds) until new =
+    (mid : Connections S)
+    × (place : ℕ)
+    × FlushesMany takes number lacks gave wrote shard keys old rounds place mid
+    × FlushesSome takes number lacks gave wrote shard keys place until mid new
+
+-- That is done from the first of these keys on, until none is left, or 2^64 - 1 times.
+pub record FlushesAll {H S : Type 0} (takes : H → ℕ → ℕ → List ℕ → H → Type 0) (number : H → ℕ)
+    (lacks : ℕ → Type 0) (gave wrote : S → Came → S → Type 0) (shard : ℕ) (keys : List ℕ)
+    (old new : Connections S) : Type 0 where
+  pub rounds : ℕ
+  pub until : ℕ
+  pub many : FlushesMany takes number lacks gave wrote shard keys old rounds until new
+  pub ends : (length keys ≤ until) ⊎ (rounds ≡ 2 ^ 64 - 1)

@@ -3,7 +3,7 @@
 ghost use Rattle.std.specs.Prelude.{◌≡◌, ℕ, List, ◌++◌, ◌↔◌, ◌⊎◌, ◌-◌, ◌^◌, min, if◌then◌else◌, true, false, ◌||◌, nat_lt, [], length, IfSome, IfNone, IsTrue};
 ghost use Rattle.std.specs.Bool.{OnTrue, OnFalse};
 ghost use Rattle.net_streams.specs.Writes.{HasWritten};
-ghost use Rattle.node_net.specs.Taking.{IsClientOf, Gives};
+ghost use Rattle.node_net.specs.Taking.{client_in, Lends};
 ghost use Rattle.node_net.specs.Telling.{peer_of, Reaches};
 ghost use Rattle.node_net.specs.Holds.{is_proving as proving, LinkAdvances, LinkDetaches, LinkLeaves, LinkCloses, LeavesAndSends};
 ghost use Rattle.node_net.specs.Sending.{ending_of, Sends, SendsTaken, SendsWhole, KeepsOrLoses, IsBlamed, IsLimited, Rests, out_of_memory, closed_if_written};
@@ -621,7 +621,7 @@ impl<S: Stream> Connection<S> {
 
     /// The client at the other end, where it is one of this shard.
     pub fn client_of(&self, shard: u64) -> Option<ConnId>
-        ensures { IfSome result (IsClientOf self.now.link shard) }
+        ensures { result ≡ client_in shard self.now.link }
     {
         match &self.link {
             Link::Client(client) if client.shard == shard => Some(client.id()),
@@ -647,14 +647,14 @@ impl<S: Stream> Connection<S> {
 
     /// Takes what waits for a client of this shard, where all that was taken for it before is written. Where it is much, and nothing stands
     /// in `lent`, it comes in the outbox's own buffer: so no outbox keeps a large one.
+    #[tactic(auto, using(crate::proofs::TakingLemmas::lends_other, crate::proofs::TakingLemmas::lends_some))]
     pub fn take_from<H: ShardCalls>(
         &self,
         shard: &mut H,
         lent: &mut Vec<u8>,
     ) -> Result<(), AllocError>
-        ensures { (bytes : List ℕ)
-            × (lent.new.items ≡ lent.old.items ++ bytes)
-            × Gives H.takes H.number self.now.link shard.old bytes shard.new }
+        ensures { Lends H.takes H.number self.now lent.old.items shard.old lent.new.items
+            shard.new }
     {
         let Some(client) = self.client_of(shard.shard()) else {
             return Ok(());

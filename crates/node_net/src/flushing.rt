@@ -1,12 +1,14 @@
 //! What was put for clients and other servers is taken and written.
 
-ghost use Rattle.std.specs.Prelude.{◌≡◌, ◌⊎◌, ℕ, List, [], ◌∷◌, ◌++◌, OnOk};
+ghost use Rattle.std.specs.Prelude.{◌≡◌, ◌⊎◌, [], ◌∷◌, ◌++◌, length, slice_get, None, IfSome, OnOk};
+ghost use Rattle.std.specs.Bool.{OnFalse};
+ghost use Rattle.slab.specs.Slab.{get};
 ghost use Rattle.route_frames.specs.Canonical.{frame_bytes};
 ghost use Rattle.route_values.specs.declared.frames.RouteFrame.TheVariants as route;
 ghost use Rattle.server_calls.specs.Routed.{took, taken_of, WasRouted};
 ghost use Rattle.node_net.specs.Keyed.{ChangesAt, EachStays};
 ghost use Rattle.node_net.specs.Sending.{SendsTaken, IsLimited, KeepsStream};
-ghost use Rattle.node_net.specs.Taking.{all_parts, GivesAt, TakesOne, TakesSome, TakesParts, SendsPart, SendsEach, FlushesSome};
+ghost use Rattle.node_net.specs.Taking.{all_parts, keys_of, client_in, LendsAt, TakesOne, TakesOn, TakesParts, SendsPart, SendsEach, GoesOnAt, FlushesSome, FlushesAll};
 ghost use Rattle.node_net.specs.Telling.{spelling, TellsFrames, TellsSome, TellsPeer};
 
 use crate::connection::{Cause, Ending};
@@ -23,6 +25,13 @@ use std::alloc::{AllocError, Global};
 use std::sync::Wait;
 use subj::{Failure, MAX_PAYLOAD};
 
+/// The key at this place of a list.
+fn key_at(keys: &[usize], place: usize) -> Option<usize>
+    ensures { result ≡ slice_get keys.now place }
+{
+    keys.get(place).copied()
+}
+
 /// Which connections may have something that waits for them.
 #[derive(Clone, Copy)]
 enum Awaited<'a> {
@@ -32,17 +41,26 @@ enum Awaited<'a> {
 }
 
 impl Awaited<'_> {
-    fn count(self) -> usize {
+    /// How many there are.
+    #[tactic(auto, using(crate::proofs::TakingLemmas::count_all))]
+    fn count(self) -> usize
+        ensures { result ≡ length (keys_of self.entry) }
+    {
         match self {
             Awaited::All(count) => count,
             Awaited::These(keys) => keys.len(),
         }
     }
 
-    fn key(self, place: usize) -> Option<usize> {
+    /// The key at this place among them.
+    #[tactic(auto, using(crate::proofs::TakingLemmas::key_all, crate::proofs::TakingLemmas::key_none))]
+    fn key(self, place: usize) -> Option<usize>
+        ensures { result ≡ slice_get (keys_of self.entry) place }
+    {
         match self {
-            Awaited::All(_) => Some(place),
-            Awaited::These(keys) => keys.get(place).copied(),
+            Awaited::All(count) if place < count => Some(place),
+            Awaited::All(_) => None,
+            Awaited::These(keys) => key_at(keys, place),
         }
     }
 }
@@ -57,7 +75,8 @@ impl<S: Stream> Connections<S> {
         }
     }
 
-    /// Takes what waits for clients of the shard of this number, from this place on, until enough is taken. The place where it goes on.
+    /// Takes what waits for clients of the shard of this number, from this place among these on, until enough is taken. The place where it
+    /// goes on.
     #[tactic(auto, using(crate::proofs::TakingLemmas::takes_parts))]
     fn take_some<C: ServerCalls, R: Wait>(
         &mut self,
@@ -67,55 +86,54 @@ impl<S: Stream> Connections<S> {
         awaited: Awaited<'_>,
         place: usize,
         taken: &mut Taken,
-    ) -> usize
-        ensures { TakesParts C.Shard.takes C.Shard.number (C.lacks node) number self.old.table
-            (all_parts taken.new) self.new.table }
+    ) -> Result<usize, AllocError>
+        ensures { TakesParts C.Shard.takes C.Shard.number (C.lacks node) number
+            (keys_of awaited.entry) place result self.old.table (all_parts taken.new)
+            self.new.table }
     {
         taken.clear();
         match node.shard(rt, number) {
-            None => awaited.count(),
+            None => Ok(awaited.count()),
             Some(mut shard) => self.take_from(&mut shard, awaited, place, taken),
         }
     }
 
     /// The same of a shard that is held.
-    #[tactic(auto, using(crate::proofs::TakingLemmas::takes_nothing))]
+    #[tactic(auto, using(crate::proofs::TakingLemmas::taken_none, crate::proofs::TakingLemmas::taken_to, crate::proofs::TakingLemmas::taken_all))]
     fn take_from<H: ShardCalls>(
         &mut self,
         shard: &mut H,
         awaited: Awaited<'_>,
-        place: usize,
+        from: usize,
         taken: &mut Taken,
-    ) -> usize
-        ensures { TakesSome H.takes H.number self.old.table shard.old (all_parts taken.old)
-            self.new.table shard.new (all_parts taken.new) }
+    ) -> Result<usize, AllocError>
+        ensures { TakesOn H.takes H.number (keys_of awaited.entry) from result self.old.table
+            shard.old (all_parts taken.old) self.new.table shard.new (all_parts taken.new) }
     {
         let count = awaited.count();
-        for place in place..count {
+        for place in from..count {
             if taken.is_enough() {
-                return place;
+                return Ok(place);
             }
             let Some(key) = awaited.key(place) else {
-                return count;
+                return Ok(place);
             };
             if self.take_one(shard, key, taken).is_err() {
-                self.is_short = true;
-                self.awaits_any = true;
-                return count;
+                return Err(AllocError);
             }
         }
-        count
+        Ok(count)
     }
 
     /// Takes what waits for a client of the shard. One that its shard has shut is closed.
-    #[tactic(auto, using(crate::proofs::TakingLemmas::takes_no_one))]
     fn take_one<H: ShardCalls>(
         &mut self,
         shard: &mut H,
         key: usize,
         taken: &mut Taken,
     ) -> Result<(), AllocError>
-        ensures { TakesOne H.takes H.number key self.old.table shard.old (all_parts taken.old)
+        ensures { (taken.old.last ≡ None)
+            → TakesOne H.takes H.number key self.old.table shard.old (all_parts taken.old)
             self.new.table shard.new (all_parts taken.new) }
     {
         if !self.is_of_shard(key, shard.shard()) {
@@ -142,7 +160,10 @@ impl<S: Stream> Connections<S> {
     }
 
     /// Whether it is the connection of a client of this shard.
-    fn is_of_shard(&self, key: usize, shard: u64) -> bool {
+    fn is_of_shard(&self, key: usize, shard: u64) -> bool
+        ensures { OnFalse result (IfSome (get self.entry.now.table key) (λ connection.
+            client_in shard connection.link ≡ None)) }
+    {
         match self.table.get(key) {
             None => false,
             Some(connection) => connection.client_of(shard).is_some(),
@@ -177,9 +198,8 @@ impl<S: Stream> Connections<S> {
         key: usize,
         lent: &mut Vec<u8>,
     ) -> Result<(), AllocError>
-        ensures { (bytes : List ℕ)
-            × (lent.new.items ≡ lent.old.items ++ bytes)
-            × GivesAt H.takes H.number self.entry.now.table key shard.old bytes shard.new }
+        ensures { LendsAt H.takes H.number self.entry.now.table key lent.old.items shard.old
+            lent.new.items shard.new }
     {
         match self.table.get(key) {
             None => Ok(()),
@@ -238,6 +258,22 @@ impl<S: Stream> Connections<S> {
     {
         if let Some(connection) = self.table.get_mut(key) {
             connection.send_taken(bytes);
+        }
+    }
+
+    /// The place where it goes on, of so many. Where there was no memory to take what waits, that is behind the last one, and it is noted that
+    /// something may wait for any client.
+    fn go_on(&mut self, came: Result<usize, AllocError>, count: usize) -> usize
+        ensures table { self.new.table ≡ self.old.table }
+        ensures place { GoesOnAt count came result self.new }
+    {
+        match came {
+            Ok(place) => place,
+            Err(_) => {
+                self.is_short = true;
+                self.awaits_any = true;
+                count
+            }
         }
     }
 
@@ -355,9 +391,18 @@ impl<S: Stream, C: ServerCalls> Server<S, C> {
         keys.extend_from_slice(served)
     }
 
-    /// Takes and writes what waits for clients of a shard, which are among these.
+    /// Takes and writes what waits for clients of a shard, which are among these. What was kept for them is written first.
     fn flush_awaited<R: Wait>(&mut self, rt: &R, number: u64, awaited: Awaited<'_>) {
         self.connections.write_all_kept(awaited);
+        self.flush_all(rt, number, awaited);
+    }
+
+    /// Takes what waits for clients of a shard, which are among these, some at a time, and writes it.
+    #[tactic(auto, using(crate::proofs::TakingLemmas::flushed_none, crate::proofs::TakingLemmas::flushed_more, crate::proofs::TakingLemmas::flushed_all, crate::proofs::TakingLemmas::flushed_last))]
+    fn flush_all<R: Wait>(&mut self, rt: &R, number: u64, awaited: Awaited<'_>)
+        ensures { FlushesAll C.Shard.takes C.Shard.number (C.lacks self.old.node) S.gave S.wrote
+            number (keys_of awaited.entry) self.old.connections self.new.connections }
+    {
         let mut place = 0;
         for _round in 0..u64::MAX {
             if place >= awaited.count() {
@@ -376,15 +421,17 @@ impl<S: Stream, C: ServerCalls> Server<S, C> {
         awaited: Awaited<'_>,
         place: usize,
     ) -> usize
-        ensures { FlushesSome C.Shard.takes C.Shard.number (C.lacks self.old.node) S.gave S.wrote
-            number self.old.connections.table self.new.connections.table }
+        ensures flushed { FlushesSome C.Shard.takes C.Shard.number (C.lacks self.old.node) S.gave
+            S.wrote number (keys_of awaited.entry) place result self.old.connections
+            self.new.connections }
+        ensures node { self.new.node ≡ self.old.node }
     {
-        let place = self
+        let came = self
             .connections
             .take_some(rt, self.node, number, awaited, place, &mut self.taken);
         self.connections.write_parts(&self.taken);
         self.taken.let_go();
-        place
+        self.connections.go_on(came, awaited.count())
     }
 
     /// Takes and writes what waits for other servers.

@@ -1,6 +1,6 @@
 //! What was taken for clients and is about to be written.
 
-ghost use Rattle.std.specs.Prelude.{◌≡◌, ◌++◌, ◌∷◌, [], None};
+ghost use Rattle.std.specs.Prelude.{◌≡◌, ◌++◌, ◌∷◌, [], None, IsSome};
 ghost use Rattle.std.specs.Bool.{OnTrue, OnFalse};
 ghost use Rattle.node_net.specs.Taking.{all_parts};
 
@@ -40,7 +40,9 @@ impl Taken {
     }
 
     /// Whether no more is to be taken before this is written.
-    pub fn is_enough(&self) -> bool {
+    pub fn is_enough(&self) -> bool
+        ensures { OnFalse result (self.now.last ≡ None) }
+    {
         self.last.is_some() || self.parts.len() >= TAKEN_AT_ONCE
     }
 
@@ -48,7 +50,7 @@ impl Taken {
     pub fn begin_part(&mut self) -> bool
         ensures begun { OnTrue result ((self.new.parts ≡ all_parts self.old)
             × (self.new.lent.items ≡ []) × (self.new.last ≡ None)) }
-        ensures full { OnFalse result (self.new ≡ self.old) }
+        ensures full { OnFalse result (IsSome self.old.last × (self.new ≡ self.old)) }
     {
         if self.last.is_some() {
             return false;
