@@ -4,6 +4,10 @@ pub mod SendingLemmas
 pub mod HoldLemmas
 -- the calls of a turn of a client's connection are one run of its life
 pub mod TurnLemmas
+-- what a route reads, piece by piece
+pub mod ReadingLemmas
+-- what it reads over its life
+pub mod RouteLifeLemmas
 -- frames that are handed to the hub, one after the other
 pub mod RouteLemmas
 -- shards that are worked, job by job and shard by shard

@@ -1,5 +1,5 @@
 -- Frames that are handed to the hub, one after the other.
-use Rattle.std.proofs.Common.{◌≡◌, ℕ, ◌+◌, ◌<◌, Bool, true, false, if◌then◌else◌, List, [], ◌∷◌, ◌++◌, length, Option, Some, None, refl, sym, ap, ◌∙◌, subst, arith, inl, inr, length-append, append-nil, append_assoc}
+use Rattle.std.proofs.Common.{◌≡◌, ℕ, ◌+◌, ◌<◌, Bool, true, false, if◌then◌else◌, List, [], ◌∷◌, ◌++◌, length, Option, Some, None, Ok, Err, refl, sym, ap, ◌∙◌, subst, arith, inl, inr, length-append, append-nil, append_assoc}
 use Rattle.std.specs.Prelude.{option_to_list, is_some, IfSome}
 use Rattle.std.specs.Option.{option_zip}
 use Rattle.subj.specs.Servers.{ServerIdentity}
@@ -8,7 +8,9 @@ use Rattle.route_values.specs.Records.{Info, Connect}
 use Rattle.route_values.specs.declared.frames.RouteFrame.{RouteFrame}
 use Rattle.route_values.specs.declared.frames.RouteFrame.TheVariants as route
 use Rattle.server_calls.specs.Routed.{Routed, informed, connected, received, was_cut, took, RouteChain}
-use Rattle.node_net.specs.Routes.{IsOfPeer, is_of_life, Came, is_done, end_behind, standing_behind, HandsOver, GoOn, HasOther, HasNoNumbered, EndsReading, EndsWithout, HasReceived, HandsOne, HandsNone, HandsNext, Applies, AppliesAhead, ReadsOn, Looks, LooksSo, place_of, dialed_place, told_by, Stays, TakesInfo, TakesConnect, Takes, TakesAhead, ReceivesAtHub, Advances}
+use Rattle.node_net.specs.Routes.{IsOfPeer, is_of_life, Came, is_done, end_behind, standing_behind, HandsOver, GoOn, HasOther, HasNoNumbered, EndsReading, EndsWithout, HasReceived, HandsOne, HandsNone, HandsNext, AppliesAhead, ReadsOn, ReadsSo, Looks, LooksSo, place_of, dialed_place, told_by, Stays, TakesInfo, TakesConnect, Takes, TakesAhead, ReceivesAtHub, Advances}
+use Rattle.node_net.specs.Reading.{ReadsFrames, ReadsAhead}
+use Rattle.node_net.proofs.ReadingLemmas.{frames_none, frames_join}
 use Rattle.node_net.specs.declared.route_link.RouteLink.{RouteLink}
 use Rattle.node_net.specs.declared.route_link.Stage.{Stage}
 use Rattle.node_net.specs.declared.route_link.Stepped.{Stepped}
@@ -90,13 +92,20 @@ reads_on a b c ab bc =
     bc
     ∙ ap (λ (r : RouteLink). record r { cutter = c.cutter; line = c.line; unjoined = c.unjoined; ahead = c.ahead }) ab
 
+so_on : (end : Option Ran) (one two : List RouteFrame) (a b c : RouteLink)
+    → ReadsSo None a b one
+    → ReadsSo end b c two
+    → ReadsSo end a c (one ++ two)
+so_on end one two a b c ab bc =
+    record { on = reads_on a b c ab.on bc.on; reads = frames_join end one two a b c ab.reads bc.reads }
+
 same_stage : (a b : RouteLink) → ReadsOn a b → b.stage ≡ a.stage
 same_stage a b is = ap (λ (r : RouteLink). r.stage) is
 
-pub record Handed {H : Type 0} (made : H → Routed → H → Type 0) (life : ServerIdentity) (old new : RouteLink)
-    (before after : H) (calls : List Routed) : Type 0 where
+pub record Handed {H : Type 0} (made : H → Routed → H → Type 0) (life : ServerIdentity) (looked : Option Ran)
+    (old new : RouteLink) (before after : H) (calls : List Routed) : Type 0 where
   pub read : List RouteFrame
-  pub on : ReadsOn old new
+  pub on : ReadsSo looked old new read
   pub chain : RouteChain made before calls after
   pub hands : HandsOver (IsOfPeer life old.stage) (option_to_list old.ahead ++ read) calls (option_to_list new.ahead)
 
@@ -118,12 +127,12 @@ hands_read peer standing read more calls left there h is =
 
 handed_one : {H : Type 0} (made : H → Routed → H → Type 0) (life : ServerIdentity) (end : Option Ran)
     (old mid new : RouteLink) (before there after : H) (calls : List Routed)
-    → Handed made life old mid before there calls
+    → Handed made life None old mid before there calls
     → (one : HandsOne made life end mid new there after)
-    → Handed made life old new before after (calls ++ received one.frame one.came ∷ [])
+    → Handed made life None old new before after (calls ++ received one.frame one.came ∷ [])
 handed_one made life end old mid new before there after calls far one = record {
   read = far.read ++ one.read;
-  on = reads_on old mid new far.on one.on;
+  on = so_on None far.read one.read old mid new far.on one.on;
   chain = chain_push made before calls there (received one.frame one.came) after far.chain one.call;
   hands =
       subst (λ xs.
@@ -134,17 +143,17 @@ handed_one made life end old mid new before there after calls far one = record {
       one.came []
       (hands_read (IsOfPeer life old.stage) (option_to_list old.ahead) far.read one.read calls
       (option_to_list mid.ahead) (route.Numbered one.frame ∷ []) far.hands one.stands)
-      (subst (λ s. IsOfPeer life s one.frame) (same_stage old mid far.on) one.of_peer));
+      (subst (λ s. IsOfPeer life s one.frame) (same_stage old mid far.on.on) one.of_peer));
 }
 
 handed_none : {H : Type 0} (made : H → Routed → H → Type 0) (life : ServerIdentity) (end : Option Ran)
     (old mid new : RouteLink) (before there after : H) (calls : List Routed)
-    → Handed made life old mid before there calls
-    → HandsNone life end mid new there after
-    → Handed made life old new before after calls
+    → Handed made life None old mid before there calls
+    → (none : HandsNone life end mid new there after)
+    → Handed made life none.looked old new before after calls
 handed_none made life end old mid new before there after calls far none = record {
   read = far.read ++ none.read;
-  on = reads_on old mid new far.on none.on;
+  on = so_on none.looked far.read none.read old mid new far.on none.on;
   chain = subst (λ h. RouteChain made before calls h) (sym none.same) far.chain;
   hands =
       hands_read (IsOfPeer life old.stage) (option_to_list old.ahead) far.read none.read calls
@@ -157,7 +166,7 @@ handed_none made life end old mid new before there after calls far none = record
 pub record SoFar {H : Type 0} (made : H → Routed → H → Type 0) (life : ServerIdentity) (old new : RouteLink)
     (before after : H) (count : ℕ) : Type 0 where
   pub calls : List Routed
-  pub handed : Handed made life old new before after calls
+  pub handed : Handed made life None old new before after calls
   pub go_on : GoOn old.stage calls
   pub so_many : length calls ≡ count
 
@@ -165,7 +174,13 @@ pub none_so_far : {H : Type 0} (made : H → Routed → H → Type 0) (life : Se
     → SoFar made life old old before before 0
 none_so_far made life old before = record {
   calls = [];
-  handed = record { read = []; on = refl; chain = refl; hands = sym (append-nil (option_to_list old.ahead)) };
+  handed =
+      record {
+        read = [];
+        on = record { on = refl; reads = frames_none old };
+        chain = refl;
+        hands = sym (append-nil (option_to_list old.ahead));
+      };
   go_on = tt;
   so_many = refl;
 }
@@ -192,7 +207,7 @@ one_more made life end old mid new before there after count far (inl one) is = r
   handed = handed_one made life end old mid new before there after far.calls far.handed one;
   go_on =
       go_on_push old.stage far.calls one.frame one.came far.go_on
-      (end_at old mid one.frame one.came end far.handed.on one.ends ∙ is);
+      (end_at old mid one.frame one.came end far.handed.on.on one.ends ∙ is);
   so_many = count_push far.calls (received one.frame one.came) count far.so_many;
 }
 one_more made life end old mid new before there after count far (inr none) is =
@@ -201,14 +216,14 @@ one_more made life end old mid new before there after count far (inr none) is =
     none_is : {why : Ran} → None ≡ Some why → ⊥
     none_is e = cc e
 
-why_is : (life : ServerIdentity) (a b : RouteLink) (end why : Ran) (left : Option RouteFrame)
+why_is : (life : ServerIdentity) (a b : RouteLink) (looked : Option Ran) (end why : Ran) (left : Option RouteFrame)
     → ReadsOn a b
     → Some end ≡ Some why
-    → EndsWithout life b.stage why left
-    → EndsWithout life a.stage end left
-why_is life a b end why left on is ends =
-    subst (λ s. EndsWithout life s end left) (same_stage a b on)
-    (subst (λ r. EndsWithout life b.stage r left) (sym (some_is is)) ends)
+    → EndsWithout life b.stage looked why left
+    → EndsWithout life a.stage looked end left
+why_is life a b looked end why left on is ends =
+    subst (λ s. EndsWithout life s looked end left) (same_stage a b on)
+    (subst (λ r. EndsWithout life b.stage looked r left) (sym (some_is is)) ends)
   where
     some_is : Some end ≡ Some why → end ≡ why
     some_is e = cc e
@@ -225,25 +240,30 @@ ends_at made life came end old mid new before there after count most far few (in
     record {
       read = handed.read;
       calls = far.calls ++ received one.frame one.came ∷ [];
+      looked = None;
       on = handed.on;
       chain = handed.chain;
       hands = handed.hands;
       few = omega (arith, few, count_push far.calls (received one.frame one.came) count far.so_many);
       ends =
-          inl (record {
-            front = far.calls;
-            frame = one.frame;
-            came = one.came;
-            are = refl;
-            go_on = far.go_on;
-            last = end_at old mid one.frame one.came came far.handed.on one.ends ∙ is;
-          });
+          inl (
+            refl,
+            record {
+              front = far.calls;
+              frame = one.frame;
+              came = one.came;
+              are = refl;
+              go_on = far.go_on;
+              last = end_at old mid one.frame one.came came far.handed.on.on one.ends ∙ is;
+            },
+          );
     }
 ends_at made life came end old mid new before there after count most far few (inr none) is =
     let handed = handed_none made life came old mid new before there after far.calls far.handed none in
     record {
       read = handed.read;
       calls = far.calls;
+      looked = none.looked;
       on = handed.on;
       chain = handed.chain;
       hands = handed.hands;
@@ -251,7 +271,8 @@ ends_at made life came end old mid new before there after count most far few (in
       ends =
           inr (
             far.go_on,
-            inr (why_is life old mid end none.why new.ahead far.handed.on (sym is ∙ none.ends) none.left),
+            inr (why_is life old mid none.looked end none.why new.ahead far.handed.on.on (sym is ∙ none.ends)
+                none.left),
           );
     }
 
@@ -263,11 +284,12 @@ pub ends_full : {H : Type 0} (made : H → Routed → H → Type 0) (life : Serv
 ends_full made life end old new before after most far is = record {
   read = far.handed.read;
   calls = far.calls;
+  looked = None;
   on = far.handed.on;
   chain = far.handed.chain;
   hands = far.handed.hands;
   few = omega (arith, far.so_many);
-  ends = inr (far.go_on, inl (is, far.so_many));
+  ends = inr (far.go_on, inl (refl, is, far.so_many));
 }
 
 -- ---- the next frame
@@ -281,6 +303,12 @@ on_behind : (done : Bool) (old mid : RouteLink) → ReadsOn old mid → ReadsOn 
 on_behind true old mid is = ap (λ (r : RouteLink). record r { ahead = None }) is
 on_behind false old mid is = is
 
+so_behind : (done : Bool) (read : List RouteFrame) (old mid : RouteLink)
+    → ReadsSo None old mid read
+    → ReadsSo None old (left_behind done mid) read
+so_behind true read old mid is = record { on = on_behind true old mid is.on; reads = is.reads }
+so_behind false read old mid is = is
+
 ahead_behind : (done : Bool) (mid : RouteLink) (frame : RouteFrame)
     → mid.ahead ≡ Some frame
     → (left_behind done mid).ahead ≡ (if done then None else Some frame)
@@ -293,11 +321,12 @@ quiet : {H : Type 0} (made : H → Routed → H → Type 0) (life : ServerIdenti
     → Looks old None mid
     → end ≡ Some why
     → after ≡ before
-    → EndsWithout life old.stage why mid.ahead
+    → EndsWithout life old.stage None why mid.ahead
     → HandsNext made life end old mid before after
 quiet made life end why old mid before after looks ends same left =
     inr (record {
       read = looks.read;
+      looked = None;
       why = why;
       on = looks.on;
       stands = sym looks.ahead;
@@ -317,11 +346,11 @@ hands_frame made life done end old mid (route.Numbered frame) before after looks
       read = looks.read;
       frame = frame;
       came = a.1.0;
-      on = on_behind done old mid looks.on;
+      on = so_behind done looks.read old mid looks.on;
       stands = sym looks.ahead ∙ ap option_to_list is;
-      of_peer = subst (λ s. IsOfPeer life s frame) (same_stage old mid looks.on) a.0;
+      of_peer = subst (λ s. IsOfPeer life s frame) (same_stage old mid looks.on.on) a.0;
       call = a.1.1;
-      ends = a.1.3 ∙ ap (λ s. end_behind (is_of_life s frame) a.1.0) (same_stage old mid looks.on);
+      ends = a.1.3 ∙ ap (λ s. end_behind (is_of_life s frame) a.1.0) (same_stage old mid looks.on.on);
       left =
           ahead_behind done mid (route.Numbered frame) is
           ∙ ap (λ b. if b then None else Some (route.Numbered frame)) a.1.2;
@@ -329,19 +358,22 @@ hands_frame made life done end old mid (route.Numbered frame) before after looks
 hands_frame made life done end old mid (route.Numbered frame) before after looks is (inr a) =
     subst (λ b. HandsNext made life end old (left_behind b mid) before after) (sym a.1)
     (quiet made life end ran.Refused old mid before after looks a.2 a.3
-    (inr (inr (
+    (inr (
       refl,
-      subst (λ l. HasOther life old.stage l) (sym is)
-          (subst (λ s. ¬ IsOfPeer life s frame) (same_stage old mid looks.on) a.0),
-    ))))
+      inr (
+        refl,
+        subst (λ l. HasOther life old.stage l) (sym is)
+            (subst (λ s. ¬ IsOfPeer life s frame) (same_stage old mid looks.on.on) a.0),
+      ),
+    )))
 hands_frame made life done end old mid (route.Info info) before after looks is a =
     subst (λ b. HandsNext made life end old (left_behind b mid) before after) (sym a.0)
     (quiet made life end ran.Goes old mid before after looks a.1 a.2
-    (inr (inl (refl, subst HasNoNumbered (sym is) tt))))
+    (inr (refl, inl (refl, subst HasNoNumbered (sym is) tt))))
 hands_frame made life done end old mid (route.Connect connect) before after looks is a =
     subst (λ b. HandsNext made life end old (left_behind b mid) before after) (sym a.0)
     (quiet made life end ran.Goes old mid before after looks a.1 a.2
-    (inr (inl (refl, subst HasNoNumbered (sym is) tt))))
+    (inr (refl, inl (refl, subst HasNoNumbered (sym is) tt))))
 
 -- it was read before, or is read now
 pub hands_next : {H : Type 0} (made : H → Routed → H → Type 0) (life : ServerIdentity) (done : Bool) (end : Option Ran)
@@ -367,76 +399,72 @@ hands_no_next made life end old mid before looks = go mid.ahead refl where
   go None is =
       inr (record {
         read = looks.read;
+        looked = Some end;
         why = end;
         on = looks.on;
         stands = sym looks.ahead;
         same = refl;
         ends = refl;
-        left = inl (subst (λ x. LooksSo (Some end) x) is looks.ends, is);
+        left = inl (refl, subst (λ x. LooksSo (Some end) x) is looks.ends, is);
       })
 
 -- ---- reading
 
--- what was read stands behind what stood to be taken
-pub record Looking (old mid : RouteLink) : Type 0 where
-  pub read : List RouteFrame
-  pub on : ReadsOn old mid
-  pub ahead : option_to_list mid.ahead ≡ option_to_list old.ahead ++ read
+there : (ahead : Option RouteFrame) → true ≡ is_some ahead → LooksSo None ahead
+there (Some frame) is = tt
+there None is = absurd (cc is)
 
-pub looks_not : (old : RouteLink) → Looking old old
-looks_not old = record { read = []; on = refl; ahead = sym (append-nil (option_to_list old.ahead)) }
-
-nil_front : (xs ys : List RouteFrame) → [] ≡ xs ++ ys → xs ≡ []
-nil_front [] ys is = refl
-nil_front (x ∷ xs) ys is = absurd (cc is)
+-- the frame was read before
+pub looks_there : (link : RouteLink) → true ≡ is_some link.ahead → Looks link None link
+looks_there link some = record {
+  read = [];
+  on = record { on = refl; reads = frames_none link };
+  ahead = sym (append-nil (option_to_list link.ahead));
+  ends = there link.ahead some;
+}
 
 none_of : (ahead : Option RouteFrame) → false ≡ is_some ahead → ahead ≡ None
 none_of None is = refl
 none_of (Some frame) is = absurd (cc is)
 
 -- none stood there, so whatever does now was read
-pub looks_more : (old mid new : RouteLink)
-    → Looking old mid
-    → false ≡ is_some mid.ahead
-    → ReadsOn mid new
-    → Looking old new
-looks_more old mid new far none on =
-    let old_none : option_to_list old.ahead ≡ [] =
-    nil_front (option_to_list old.ahead) far.read (sym (ap option_to_list (none_of mid.ahead none)) ∙ far.ahead) in
+pub looks_on : (old new : RouteLink)
+    → false ≡ is_some old.ahead
+    → ReadsOn old new
+    → ReadsAhead old (Ok tt) new
+    → is_some new.ahead ≡ true
+    → Looks old None new
+looks_on old new none on reads some =
+    let nothing : old.ahead ≡ None = none_of old.ahead none in
     record {
       read = option_to_list new.ahead;
-      on = reads_on old mid new far.on on;
-      ahead = ap (λ xs. xs ++ option_to_list new.ahead) (sym old_none);
+      on = record { on = on; reads = reads nothing };
+      ahead = ap (λ a. option_to_list a ++ option_to_list new.ahead) (sym nothing);
+      ends = there new.ahead (sym some);
     }
 
-pub looks_there : (old mid : RouteLink) → Looking old mid → true ≡ is_some mid.ahead → Looks old None mid
-looks_there old mid far some = record { read = far.read; on = far.on; ahead = far.ahead; ends = there mid.ahead some }
-  where
-    there : (ahead : Option RouteFrame) → true ≡ is_some ahead → LooksSo None ahead
-    there (Some frame) is = tt
-    there None is = absurd (cc is)
-
-pub looks_in_vain : (old mid : RouteLink) (end : Ran)
-    → Looking old mid
-    → false ≡ is_some mid.ahead
-    → EndsReading end
-    → Looks old (Some end) mid
-looks_in_vain old mid end far none ends = record {
-  read = far.read;
-  on = far.on;
-  ahead = far.ahead;
-  ends = subst (λ a. LooksSo (Some end) a) (sym (none_of mid.ahead none)) ends;
-}
-
-pub looks_failed : (old mid new : RouteLink) (end : Ran)
-    → Looking old mid
-    → false ≡ is_some mid.ahead
-    → ReadsOn mid new
-    → new.ahead ≡ mid.ahead
+pub looks_in_vain : (old new : RouteLink) (end : Ran)
+    → false ≡ is_some old.ahead
+    → ReadsOn old new
+    → ReadsAhead old (Err end) new
+    → new.ahead ≡ old.ahead
     → EndsReading end
     → Looks old (Some end) new
-looks_failed old mid new end far none on same ends =
-    looks_in_vain old new end (looks_more old mid new far none on) (none ∙ ap is_some (sym same)) ends
+looks_in_vain old new end none on reads same ends =
+    let nothing : old.ahead ≡ None = none_of old.ahead none in
+    let nothing_now : new.ahead ≡ None = same ∙ nothing in
+    record {
+      read = [];
+      on =
+          record {
+            on = on;
+            reads =
+                subst (λ frames. ReadsFrames (Some end) frames old new) (ap option_to_list nothing_now)
+                (reads nothing);
+          };
+      ahead = ap option_to_list nothing_now ∙ ap (λ a. option_to_list a ++ []) (sym nothing);
+      ends = subst (λ a. LooksSo (Some end) a) (sym nothing_now) ends;
+    }
 
 -- ---- what is taken
 

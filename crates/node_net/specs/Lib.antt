@@ -2,6 +2,8 @@
 pub mod Sending
 -- which calls a client's connection makes
 pub mod Holds
+-- what a route reads of the bytes that come
+pub mod Reading
 -- which calls a route makes of the hub
 pub mod Routes
 -- which shards a turn of the loop works

@@ -15,6 +15,7 @@ use Rattle.route_values.specs.Records.{Info, Connect}
 use Rattle.route_values.specs.declared.frames.RouteFrame.{RouteFrame}
 use Rattle.route_values.specs.declared.frames.RouteFrame.TheVariants as route
 use Rattle.server_calls.specs.Routed.{Routed, informed, connected, received, was_cut, took, RouteChain, WasRouted}
+use Rattle.node_net.specs.Reading.{ReadsFrames}
 use Rattle.node_net.specs.declared.route_link.RouteLink.{RouteLink}
 use Rattle.node_net.specs.declared.route_link.Stage.{Stage}
 use Rattle.node_net.specs.declared.route_link.Stage.TheVariants.{Dialed, Accepted, Kept}
@@ -140,22 +141,24 @@ HasOther life stage (Some (route.Info info)) = ⊥
 HasOther life stage (Some (route.Connect connect)) = ⊥
 HasOther life stage (Some (route.Numbered frame)) = ¬ IsOfPeer life stage frame
 
--- How it ends that a frame is read: more bytes are needed, there is no memory, what came is
--- refused, or it is gone on with later.
+-- How it ends that a frame is read: more bytes are needed, there is no memory, or what came is
+-- refused.
 abbrev pub EndsReading : Ran → Type 0
 EndsReading ran.Waits = Unit {0}
 EndsReading ran.Short = Unit {0}
 EndsReading ran.Refused = Unit {0}
-EndsReading ran.Goes = Unit {0}
+EndsReading ran.Goes = ⊥
 EndsReading ran.Busy = ⊥
 EndsReading ran.Shut = ⊥
 EndsReading ran.Posed = ⊥
 
--- Nothing is handed over, where this stands to be taken.
-abbrev pub EndsWithout : ServerIdentity → Stage → Ran → Option RouteFrame → Type 0
-EndsWithout life stage end left =
-    (EndsReading end × (left ≡ None))
-    ⊎ (((end ≡ ran.Goes) × HasNoNumbered left) ⊎ ((end ≡ ran.Refused) × HasOther life stage left))
+-- Nothing is handed over: none could be read, and it has come to that; or this stands to be taken.
+abbrev pub EndsWithout : ServerIdentity → Stage → Option Ran → Ran → Option RouteFrame → Type 0
+EndsWithout life stage looked end left =
+    ((looked ≡ Some end) × EndsReading end × (left ≡ None))
+    ⊎ ((looked ≡ None)
+    × (((end ≡ ran.Goes) × HasNoNumbered left)
+    ⊎ ((end ≡ ran.Refused) × HasOther life stage left)))
 
 -- ---- what is read
 
@@ -174,6 +177,12 @@ abbrev pub ReadsBehind : RouteLink → RouteLink → Type 0
 ReadsBehind old new =
     new ≡ record old { cutter = new.cutter; line = new.line; unjoined = new.unjoined }
 
+-- Something more of what came is read: these frames, which come first in it. Where none could be
+-- read, it comes to this.
+pub record ReadsSo (end : Option Ran) (old new : RouteLink) (read : List RouteFrame) : Type 0 where
+  pub on : ReadsOn old new
+  pub reads : ReadsFrames end read old new
+
 -- Where a frame stands to be taken; or none does, and it comes to this.
 abbrev pub LooksSo : Option Ran → Option RouteFrame → Type 0
 LooksSo None None = ⊥
@@ -184,18 +193,20 @@ LooksSo (Some end) (Some frame) = ⊥
 -- The next frame is read, unless one was that is not taken yet.
 pub record Looks (old : RouteLink) (end : Option Ran) (new : RouteLink) : Type 0 where
   pub read : List RouteFrame
-  pub on : ReadsOn old new
+  pub on : ReadsSo end old new read
   pub ahead : option_to_list new.ahead ≡ option_to_list old.ahead ++ read
   pub ends : LooksSo end new.ahead
 
 -- ---- a run
 
 -- How a run ends with these calls, of at most so many, where this stands to be taken.
-abbrev pub EndsSo : ServerIdentity → Stage → Ran → ℕ → List Routed → Option RouteFrame → Type 0
-EndsSo life stage end most calls left =
-    Stops stage end calls
+abbrev pub EndsSo : ServerIdentity → Stage → Option Ran → Ran → ℕ → List Routed
+    → Option RouteFrame → Type 0
+EndsSo life stage looked end most calls left =
+    ((looked ≡ None) × Stops stage end calls)
     ⊎ (GoOn stage calls
-    × (((end ≡ ran.Goes) × (length calls ≡ most)) ⊎ EndsWithout life stage end left))
+    × (((looked ≡ None) × (end ≡ ran.Goes) × (length calls ≡ most))
+    ⊎ EndsWithout life stage looked end left))
 
 -- Just these calls were made of the hub: they hand over what stood to be taken, and behind it the
 -- frames that were read meanwhile.
@@ -203,12 +214,13 @@ pub record HasReceived {H : Type 0} (made : H → Routed → H → Type 0) (life
     (most : ℕ) (end : Ran) (old new : RouteLink) (before after : H) : Type 0 where
   pub read : List RouteFrame
   pub calls : List Routed
-  pub on : ReadsOn old new
+  pub looked : Option Ran
+  pub on : ReadsSo looked old new read
   pub chain : RouteChain made before calls after
   pub hands : HandsOver (IsOfPeer life old.stage) (option_to_list old.ahead ++ read) calls
       (option_to_list new.ahead)
   pub few : length calls ≤ most
-  pub ends : EndsSo life old.stage end most calls new.ahead
+  pub ends : EndsSo life old.stage looked end most calls new.ahead
 
 -- ---- a step of a run
 
@@ -218,7 +230,7 @@ pub record HandsOne {H : Type 0} (made : H → Routed → H → Type 0) (life : 
   pub read : List RouteFrame
   pub frame : Frame
   pub came : Came
-  pub on : ReadsOn old new
+  pub on : ReadsSo None old new read
   pub stands : option_to_list old.ahead ++ read ≡ route.Numbered frame ∷ []
   pub of_peer : IsOfPeer life old.stage frame
   pub call : made before (received frame came) after
@@ -229,12 +241,13 @@ pub record HandsOne {H : Type 0} (made : H → Routed → H → Type 0) (life : 
 pub record HandsNone {H : Type 0} (life : ServerIdentity) (end : Option Ran) (old new : RouteLink)
     (before after : H) : Type 0 where
   pub read : List RouteFrame
+  pub looked : Option Ran
   pub why : Ran
-  pub on : ReadsOn old new
+  pub on : ReadsSo looked old new read
   pub stands : option_to_list old.ahead ++ read ≡ option_to_list new.ahead
   pub same : after ≡ before
   pub ends : end ≡ Some why
-  pub left : EndsWithout life old.stage why new.ahead
+  pub left : EndsWithout life old.stage looked why new.ahead
 
 abbrev pub HandsNext : {H : Type 0} → (H → Routed → H → Type 0) → ServerIdentity → Option Ran
     → RouteLink → RouteLink → H → H → Type 0

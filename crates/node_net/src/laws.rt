@@ -1,6 +1,7 @@
 //! Laws of the loop, each the contract of a function that does nothing.
 
 ghost use Rattle.node_net.specs.Holds.{TurnsAreServed};
+ghost use Rattle.node_net.specs.Reading.{FramesAreThoseThatCame};
 ghost use Rattle.node_net.specs.Sending.{KeptInOrder, LostAtTheEnd, NothingBehindALoss};
 
 use net_streams::Stream;
@@ -18,4 +19,10 @@ pub fn sent_bytes_keep_their_order<S: Stream>()
     ensures kept { KeptInOrder S.gave S.wrote }
     ensures lost { LostAtTheEnd S.gave S.wrote }
     ensures behind { NothingBehindALoss S.gave S.wrote }
+{}
+
+/// Whenever bytes come over a route and whenever frames are read: the frames that were read are those that all the bytes tell, from the first
+/// on and in order. None is left out before a later one, none is read twice, and none is made up.
+pub fn routes_read_what_came()
+    ensures { FramesAreThoseThatCame }
 {}

@@ -12,11 +12,11 @@
 //!
 //! In reading order: `client_link` and `route_link` make calls of what was read, and tell what they have come to (`runs`); a `handshake` is what a
 //! route begins with where the mesh has a secret, and `proving` is what the server does of it; `connection` has one of them with its stream; `laws`
-//! says that what is sent to it keeps its order, and that the turns of a client are runs of its life; `connections` has all of them, and what is
-//! noted of each until it is done; `server` takes them and lets them go, and finds those of clients (`clients`) and of other servers (`peers`);
-//! `turning` and `flushing` are a turn of its loop, by what was `taken` for clients, in `parts`, `draining` is what a server that drains does, and `running` is
-//! the loop, which reaches other servers at their `addresses`, and is told by operators over a `control` socket. `shutdown` says when the loop ends,
-//! and which server drains, the `limits` when and how much of everything, and `faults` why no stream is taken.
+//! says that what is sent to it keeps its order, that the turns of a client are runs of its life, and that a route reads all that came; `connections`
+//! has all of them, and what is noted of each until it is done; `server` takes them and lets them go, and finds those of clients (`clients`) and of
+//! other servers (`peers`); `turning` and `flushing` are a turn of its loop, by what was `taken` for clients, in `parts`, `draining` is what a server
+//! that drains does, and `running` is the loop, which reaches other servers at their `addresses`, and is told by operators over a `control` socket.
+//! `shutdown` says when the loop ends, and which server drains, the `limits` when and how much of everything, and `faults` why no stream is taken.
 #![tactic(auto)]
 
 mod addresses;
@@ -46,7 +46,7 @@ mod turning;
 pub use addresses::PeerAddresses;
 pub use control::{Control, DRAIN, DRAINS, NO_SERVER};
 pub use faults::AddFault;
-pub use laws::{sent_bytes_keep_their_order, turns_are_served};
+pub use laws::{routes_read_what_came, sent_bytes_keep_their_order, turns_are_served};
 pub use net_streams::{MemStream, Stream, StreamFault};
 pub use running::{Sockets, WAKER};
 pub use server::{Server, Side, shard_of_client};

@@ -1,6 +1,6 @@
 //! A route: a connection to another server, cut into frames.
 
-ghost use Rattle.std.specs.Prelude.{◌≡◌, true, false, if◌then◌else◌, None, Some, Err, is_some, IfSome, IfErr, OnErr};
+ghost use Rattle.std.specs.Prelude.{◌≡◌, ℕ, List, [], true, false, if◌then◌else◌, length, None, Some, Err, is_some, IfSome, IfNone, IfOk, IfErr, OnOk, OnErr, IsSome};
 ghost use Rattle.subj.specs.declared.failures.Failure.TheVariants as failure;
 ghost use Rattle.std.specs.Bool.{OnTrue, OnFalse};
 ghost use Rattle.server_calls.specs.Routed.{informed, connected, was_cut, WasRouted};
@@ -9,6 +9,11 @@ ghost use Rattle.std.specs.Option.{option_zip};
 ghost use Rattle.node_net.specs.Routes.{place_of, dialed_place, kept_place as place_kept, has_proved_other as proved_other, is_of_life as of_life, IsOfPeer};
 ghost use Rattle.node_net.specs.Routes.{is_done, end_of_refusal, end_behind, end_of as ran_behind, EndsReading, IsKept, told_by, Looks, ReadsOn, ReadsBehind};
 ghost use Rattle.node_net.specs.Routes.{Applies, AppliesAhead, HandsNext, HasReceived, ReceivesAtHub, TakesInfo, TakesConnect, TakesConnectOf, Takes, Advances, CutsSession};
+ghost use Rattle.subj.specs.declared.limits.TheConstants.{ROUTE_LINE, MAX_SNAPSHOT};
+ghost use Rattle.wire_cut.specs.Cut.{new_cutter};
+ghost use Rattle.wire_cut.specs.Reading.{StandsAt};
+ghost use Rattle.route_frames.specs.InStream.{a_line, payload_of, route_grammar};
+ghost use Rattle.node_net.specs.Reading.{reading_from, HasToRead, HasStillToRead, HasMore, ReadsFrames, Cuts, IsBehindLine, ReadsLine, ReadsPayload, Announces, end_of as end_of_reading, IsBegun, JoinsFrame, ReadsAhead};
 ghost use Rattle.node_net.specs.declared.route_link.Stepped.TheVariants as step;
 ghost use Rattle.node_net.specs.declared.runs.RunOutcome.{RunOutcome};
 
@@ -113,7 +118,9 @@ const LINE_END: usize = 2;
 const HANDSHAKE_BYTES: usize = HANDSHAKE_LINE + LINE_END;
 
 /// Cuts what a route sends, from the beginning of its handshake or behind it.
-fn cutter_of(alloc: Global, is_proving: bool) -> Cutter {
+fn cutter_of(alloc: Global, is_proving: bool) -> Cutter
+    ensures { OnFalse is_proving (result ≡ new_cutter ROUTE_LINE MAX_SNAPSHOT) }
+{
     if is_proving {
         Cutter::new(alloc, HANDSHAKE_LINE, 0)
     } else {
@@ -239,7 +246,9 @@ impl RouteLink {
         session: Option<SessionId>,
         stage: Stage,
         proof: Option<Box<Handshake>>,
-    ) -> RouteLink {
+    ) -> RouteLink
+        ensures { IfNone proof (HasToRead result (reading_from a_line [])) }
+    {
         RouteLink {
             alloc,
             cutter: cutter_of(alloc, proof.is_some()),
@@ -316,13 +325,19 @@ impl RouteLink {
     }
 
     /// The handshake is over.
-    fn end_proof(&mut self) {
+    fn end_proof(&mut self)
+        ensures { (self.old.line ≡ None)
+            → (self.old.unjoined ≡ None)
+            → HasToRead self.new (reading_from a_line []) }
+    {
         put(&mut self.proof, None);
         put(&mut self.cutter, cutter_of(self.alloc, false));
     }
 
     /// The server at this place, which dialed, has proved itself: this is its session.
-    pub fn admit(&mut self, place: usize, session: SessionId) {
+    pub fn admit(&mut self, place: usize, session: SessionId)
+        ensures { HasStillToRead self.old self.new }
+    {
         self.session = Some(session);
         self.stage = Stage::Accepted {
             from: self.came_from(),
@@ -365,28 +380,49 @@ impl RouteLink {
     }
 
     /// Reads once, at most so many bytes.
-    pub fn read_from<S: Source>(
-        &mut self,
-        source: &mut S,
-        most: usize,
-    ) -> Result<usize, FillFault> {
+    pub fn read_from<S: Source>(&mut self, source: &mut S, most: usize) -> Result<usize, FillFault>
+        ensures more { IfOk result (λ count.
+            HasMore self.old self.new (S.remaining source.old) (S.remaining source.new) count) }
+        ensures err { OnErr result (self.new ≡ self.old) }
+    {
         let most = self.most_of(most);
         self.cutter.read_from(source, most)
     }
 
     /// The memory of what was read is given back, where all of it is used up.
-    pub fn rest(&mut self) {
-        let has_frame = self.line.is_some() || self.unjoined.is_some() || self.ahead.is_some();
-        if !has_frame && self.cutter.held() == 0 {
-            let cutter = cutter_of(self.alloc, self.is_proving());
-            put(&mut self.cutter, cutter);
+    pub fn rest(&mut self)
+        ensures { (self.old.proof ≡ None) → HasStillToRead self.old self.new }
+    {
+        if !self.is_used_up() {
+            return;
         }
+        let cutter = cutter_of(self.alloc, self.is_proving());
+        put(&mut self.cutter, cutter);
+    }
+
+    /// Whether nothing of what was read waits.
+    fn is_used_up(&self) -> bool
+        ensures { OnTrue result ((self.now.line ≡ None) × (self.now.unjoined ≡ None)
+            × (length self.now.cutter.unread ≡ 0)) }
+    {
+        if self.line.is_some() {
+            return false;
+        }
+        if self.unjoined.is_some() {
+            return false;
+        }
+        if self.ahead.is_some() {
+            return false;
+        }
+        self.cutter.held() == 0
     }
 
     /// The next line, which is used up once it was read; where there is none, what a run comes to for that.
     fn next_line(&mut self) -> Result<RouteLine, Ran>
-        ensures same { ReadsBehind self.old self.new }
+        ensures same { Cuts self.old self.new }
         ensures err { IfErr result EndsReading }
+        ensures line { StandsAt route_grammar a_line self.old.cutter
+            → ReadsLine self.old.cutter result self.new.cutter }
     {
         let (size, line) = match self.cutter.peek() {
             Ok(None) => return Err(Ran::Waits),
@@ -395,7 +431,8 @@ impl RouteLink {
                 Err(Failure::OutOfMemory) => return Err(Ran::Short),
                 Err(Failure::Refused(_)) => return Err(Ran::Refused),
             },
-            Ok(Some(Piece::Payload(_))) | Err(_) => return Err(Ran::Refused),
+            Ok(Some(Piece::Payload(_))) => return Err(Ran::Refused),
+            Err(_) => return Err(Ran::Refused),
         };
         self.cutter.consume(size);
         Ok(line)
@@ -403,10 +440,14 @@ impl RouteLink {
 
     /// The payload of the line that was read.
     fn next_payload(&mut self) -> Result<Bytes, Ran>
-        ensures same { ReadsBehind self.old self.new }
+        ensures same { Cuts self.old self.new }
         ensures err { IfErr result EndsReading }
+        ensures payload { (text : List ℕ)
+            (size : ℕ)
+            → StandsAt route_grammar (payload_of text size) self.old.cutter
+            → ReadsPayload text size self.old.cutter result self.new.cutter }
     {
-        let (size, payload) = match self.cutter.peek() {
+        let (count, payload) = match self.cutter.peek() {
             Ok(None) => return Err(Ran::Waits),
             Ok(Some(Piece::Payload(payload))) => {
                 match Bytes::copy_from_slice(self.alloc, payload) {
@@ -414,16 +455,19 @@ impl RouteLink {
                     Err(_) => return Err(Ran::Short),
                 }
             }
-            Ok(Some(Piece::Line(_))) | Err(_) => return Err(Ran::Refused),
+            Ok(Some(Piece::Line(_))) => return Err(Ran::Refused),
+            Err(_) => return Err(Ran::Refused),
         };
-        self.cutter.consume(size);
+        self.cutter.consume(count);
         Ok(payload)
     }
 
     /// A payload of so many bytes has to come.
     fn expect(&mut self, size: u64) -> Result<(), Ran>
-        ensures same { ReadsBehind self.old self.new }
+        ensures same { Cuts self.old self.new }
         ensures err { IfErr result EndsReading }
+        ensures size { IsBehindLine self.old.cutter
+            → Announces size self.old.cutter result self.new.cutter }
     {
         if !self.cutter.after_line() {
             return Err(Ran::Refused);
@@ -434,11 +478,19 @@ impl RouteLink {
         }
     }
 
-    /// Reads the next line, and announces its payload.
+    /// Reads the next line, and announces its payload, unless a frame is begun.
     fn begin_frame(&mut self) -> Result<(), Ran>
         ensures same { ReadsBehind self.old self.new }
         ensures err { IfErr result EndsReading }
+        ensures begun { OnOk result (IsBegun self.new) }
+        ensures reads { ReadsFrames (end_of_reading result) [] self.old self.new }
     {
+        if self.line.is_some() {
+            return Ok(());
+        }
+        if self.unjoined.is_some() {
+            return Ok(());
+        }
         let line = self.next_line()?;
         match line.payload_size() {
             None => {
@@ -456,7 +508,9 @@ impl RouteLink {
     fn join(&mut self, line: RouteLine, payload: Bytes) -> Result<(), Ran>
         ensures same { ReadsOn self.old self.new }
         ensures err { IfErr result EndsReading }
+        ensures there { OnOk result (IsSome self.new.ahead) }
         ensures ahead { OnErr result (self.new.ahead ≡ self.old.ahead) }
+        ensures reads { JoinsFrame line payload self.old result self.new }
     {
         match line.into_frame(self.alloc, payload) {
             Ok(frame) => {
@@ -471,17 +525,16 @@ impl RouteLink {
         }
     }
 
-    /// Goes on with the frame that is to be taken next.
-    fn read_part(&mut self) -> Result<(), Ran>
+    /// Reads the payload of the frame that is begun, where one is to come, and joins it to its line.
+    fn end_frame(&mut self) -> Result<(), Ran>
         ensures same { ReadsOn self.old self.new }
         ensures err { IfErr result EndsReading }
+        ensures there { OnOk result (IsSome self.new.ahead) }
         ensures ahead { OnErr result (self.new.ahead ≡ self.old.ahead) }
+        ensures reads { IsBegun self.old → ReadsAhead self.old result self.new }
     {
         if let Some((line, payload)) = self.unjoined.take() {
             return self.join(line, payload);
-        }
-        if self.line.is_none() {
-            return self.begin_frame();
         }
         let payload = self.next_payload()?;
         match self.line.take() {
@@ -490,24 +543,28 @@ impl RouteLink {
         }
     }
 
+    /// Reads the next frame, which then stands to be taken.
+    fn read_frame(&mut self) -> Result<(), Ran>
+        ensures same { ReadsOn self.old self.new }
+        ensures err { IfErr result EndsReading }
+        ensures there { OnOk result (IsSome self.new.ahead) }
+        ensures ahead { OnErr result (self.new.ahead ≡ self.old.ahead) }
+        ensures reads { ReadsAhead self.old result self.new }
+    {
+        self.begin_frame()?;
+        self.end_frame()
+    }
+
     /// Reads the frame that is to be taken next, unless it was read. Tells why it is not there.
-    #[tactic(auto, using(crate::proofs::RouteLemmas::looks_not, crate::proofs::RouteLemmas::looks_more, crate::proofs::RouteLemmas::looks_there, crate::proofs::RouteLemmas::looks_in_vain, crate::proofs::RouteLemmas::looks_failed))]
     fn look_ahead(&mut self) -> Option<Ran>
         ensures { Looks self.old result self.new }
     {
-        for _part in 0..3 {
-            if self.ahead.is_some() {
-                return None;
-            }
-            match self.read_part() {
-                Ok(()) => {}
-                Err(end) => return Some(end),
-            }
-        }
         if self.ahead.is_some() {
-            None
-        } else {
-            Some(Ran::Goes)
+            return None;
+        }
+        match self.read_frame() {
+            Ok(()) => None,
+            Err(end) => Some(end),
         }
     }
 
