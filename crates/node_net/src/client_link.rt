@@ -1,12 +1,12 @@
 //! A client's connection: what its bytes ask for, asked of its shard and of the hub, which are held with a count of what is asked in a run.
 
-ghost use Rattle.std.specs.Prelude.{◌≡◌, ◌⊎◌, ◌||◌, true, false, length, Ok, IfOk, OnErr, IfErr};
+ghost use Rattle.std.specs.Prelude.{◌≡◌, ◌||◌, true, false, length, Ok, IfOk, OnErr, IfErr};
 ghost use Rattle.std.specs.Io.KnownBytes.{Keeps};
 ghost use Rattle.client_conn.specs.Asks.{first_asking};
 ghost use Rattle.client_conn.specs.Feeding.{HasRead};
 ghost use Rattle.client_calls.specs.Calls.{attached, detached, IsNotAttached};
-ghost use Rattle.node_net.specs.Holds.{served_or_short, next_place, ran_of as ran_behind, RunsTo, RunsAtHub, RunsAtShard, HasNoShard, RunsAt, Advances, AskedOfHub, OnlyIfPublished};
-ghost use Rattle.node_net.specs.Holds.{names_of, Pops, Closes, ClosesSome, Detaches, LeavesShard, KeepsPlace};
+ghost use Rattle.node_net.specs.Holds.{served_or_short, next_place, ran_of as ran_behind, RunsTo, RunsAt, Advances, AskedOfHub, OnlyIfPublished};
+ghost use Rattle.node_net.specs.Holds.{names_of, Pops, Closes, KeepsPlace};
 ghost use Rattle.std.specs.Result.{is_ok};
 ghost use Rattle.node_net.specs.declared.client_link.Place.TheVariants.{Shard, Hub};
 ghost use Rattle.node_net.specs.declared.limits.TheConstants.{SHARD_RUN};
@@ -28,14 +28,14 @@ use wire_cut::Source;
 /// What a client calls its open subscriptions, but for those that end by themselves (`UNSUB` with a maximum), and those for which there was
 /// no memory here. A hint by which many are closed some at a time.
 #[derive(Drop)]
-struct Sids {
+pub(crate) struct Sids {
     alloc: Global,
     texts: BTreeSet<Vec<u8>>,
 }
 
 impl Sids {
     /// There are none.
-    fn new(alloc: Global) -> Sids {
+    pub fn new(alloc: Global) -> Sids {
         Sids {
             alloc,
             texts: BTreeSet::new(alloc),
@@ -43,7 +43,7 @@ impl Sids {
     }
 
     /// How many there are.
-    fn len(&self) -> usize
+    pub fn len(&self) -> usize
         ensures { result ≡ length (names_of self.now) }
     {
         self.texts.len()
@@ -98,7 +98,7 @@ fn note_opened(sids: &mut Sids, sid: &Sid, outcome: Outcome) {
 
 /// A shard that is held, what a client calls its subscriptions, and how much was put for the client itself.
 #[derive(Drop)]
-struct ShardTally<S: ShardCalls> {
+pub(crate) struct ShardTally<S: ShardCalls> {
     shard: S,
     sids: Sids,
     so_far: RunOutcome,
@@ -106,7 +106,7 @@ struct ShardTally<S: ShardCalls> {
 
 impl<S: ShardCalls> ShardTally<S> {
     /// Nothing was asked.
-    fn new(shard: S, sids: Sids) -> ShardTally<S>
+    pub fn new(shard: S, sids: Sids) -> ShardTally<S>
         ensures { result.shard ≡ shard }
     {
         ShardTally {
@@ -183,15 +183,15 @@ impl<S: ShardCalls> ClientCalls for ShardTally<S> {
 
 /// A hub that is held, the words that it is given, and what was published.
 #[derive(Drop)]
-struct HubTally<H: HubCalls> {
-    hub: H,
-    words: Pcg64,
+pub(crate) struct HubTally<H: HubCalls> {
+    pub hub: H,
+    pub words: Pcg64,
     so_far: RunOutcome,
 }
 
 impl<H: HubCalls> HubTally<H> {
     /// Nothing was published.
-    fn new(hub: H, words: Pcg64) -> HubTally<H>
+    pub fn new(hub: H, words: Pcg64) -> HubTally<H>
         ensures { result.hub ≡ hub }
     {
         HubTally {
@@ -265,13 +265,13 @@ enum Place {
 /// A client's connection and its place in the server.
 #[derive(Drop)]
 pub(crate) struct ClientLink {
-    alloc: Global,
-    calls: Calls,
+    pub alloc: Global,
+    pub calls: Calls,
     place: Place,
     pub shard: u64,
-    sids: Sids,
+    pub sids: Sids,
     /// Whether its shard has forgotten it, so that it is a member of nothing.
-    has_left: bool,
+    pub has_left: bool,
 }
 
 /// What a run of calls has come to. A run that ends at what is for another place goes on there.
@@ -303,7 +303,7 @@ fn take_all<S: ShardCalls>(
 
 /// Closes so many of a client's subscriptions, where it calls so many by a name that is known.
 #[tactic(auto, using(crate::proofs::HoldLemmas::no_more, crate::proofs::HoldLemmas::all_closed))]
-fn close_some<S: ShardCalls>(shard: &mut S, id: ConnId, sids: &mut Sids, count: u64)
+pub(crate) fn close_some<S: ShardCalls>(shard: &mut S, id: ConnId, sids: &mut Sids, count: u64)
     ensures { Closes S.made id count (names_of sids.old) shard.old (names_of sids.new) shard.new }
 {
     for _ in 0..count {
@@ -360,40 +360,8 @@ impl ClientLink {
         self.calls.id()
     }
 
-    /// The client goes with all that waits for it, unless it has left.
-    pub fn detach<C: ServerCalls, R: Wait>(&self, rt: &R, node: C) -> Result<(), AllocError>
-        ensures { Detaches C.Shard.made C.Shard.number (C.lacks node) self.now.shard
-            self.now.calls.id self.now.has_left result }
-    {
-        if self.has_left {
-            return Ok(());
-        }
-        let Some(mut shard) = node.shard(rt, self.shard) else {
-            return Ok(());
-        };
-        self.calls.detach(&mut shard)
-    }
-
-    /// Takes all that waits for the client behind what stands there, and has its shard forget it: from here on it is a member of
-    /// nothing. For want of memory it has not left, and what was taken stands there all the same.
-    pub fn leave<C: ServerCalls, R: Wait>(
-        &mut self,
-        rt: &R,
-        node: C,
-        waiting: &mut Vec<u8>,
-    ) -> Result<(), AllocError>
-        ensures left { LeavesShard C.Shard.made C.Shard.number (C.lacks node) self.old.shard
-            self.old.calls.id self.old.has_left result self.new.has_left }
-        ensures same { self.new ≡ record self.old { has_left = self.new.has_left } }
-    {
-        match node.shard(rt, self.shard) {
-            None => Ok(()),
-            Some(mut shard) => self.leave_shard(&mut shard, waiting),
-        }
-    }
-
     /// The same of its shard, which is held.
-    fn leave_shard<S: ShardCalls>(
+    pub fn leave_shard<S: ShardCalls>(
         &mut self,
         shard: &mut S,
         waiting: &mut Vec<u8>,
@@ -408,23 +376,6 @@ impl ClientLink {
         self.calls.detach(shard)?;
         self.has_left = true;
         Ok(())
-    }
-
-    /// Closes some of its subscriptions, where there are more than its server tells at once. Whether it did.
-    pub fn close_some<C: ServerCalls, R: Wait>(&mut self, rt: &R, node: C) -> bool
-        ensures closed { ClosesSome C.Shard.made C.Shard.number (C.lacks node) self.old.shard
-            self.old.calls.id self.old.has_left (names_of self.old.sids) result
-            (names_of self.new.sids) }
-        ensures same { self.new ≡ record self.old { sids = self.new.sids } }
-    {
-        if self.has_left || self.sids.len() as u64 <= SHARD_RUN {
-            return false;
-        }
-        let Some(mut shard) = node.shard(rt, self.shard) else {
-            return false;
-        };
-        close_some(&mut shard, self.calls.id(), &mut self.sids, SHARD_RUN);
-        true
     }
 
     /// Reads once, at most so many bytes.
@@ -475,24 +426,8 @@ impl ClientLink {
         }
     }
 
-    /// Publishes what is asked up to another ask, at most a window.
-    fn publish<C: ServerCalls, R: Wait>(&mut self, rt: &R, node: C, words: &mut Pcg64) -> RunOutcome
-        ensures calls { RunsAtHub C.Hub.published C.Hub.pushed self.old.place self.new.place
-            self.old.calls.id result.end self.old.calls.conn.asking self.new.calls.conn.asking }
-        ensures same { KeepsPlace self.old self.new }
-    {
-        let own = Pcg64::from_state(words.state(), words.stream());
-        let mut tally = HubTally::new(node.hub(rt), own);
-        let run = self.publish_held(&mut tally);
-        if !run.is_empty {
-            tally.hub.push_jobs(rt);
-        }
-        *words = tally.words;
-        run
-    }
-
     /// Publishes to the hub, which is held, what is asked up to another ask.
-    fn publish_held<H: HubCalls>(&mut self, tally: &mut HubTally<H>) -> RunOutcome
+    pub fn publish_held<H: HubCalls>(&mut self, tally: &mut HubTally<H>) -> RunOutcome
         ensures calls { RunsTo (AskedOfHub H.published) self.old.calls.id WINDOW self.old.place
             Shard self.new.place result.end self.old.calls.conn.asking tally.old.hub
             self.new.calls.conn.asking tally.new.hub }
@@ -504,28 +439,8 @@ impl ClientLink {
         tally.run(ran_of(served))
     }
 
-    /// Asks its shard, up to a publication.
-    fn ask<C: ServerCalls, R: Wait>(&mut self, rt: &R, node: C) -> RunOutcome
-        ensures calls { RunsAtShard C.Shard.made C.Shard.number self.old.place self.new.place
-            self.old.shard self.old.calls.id result.end self.old.calls.conn.asking
-            self.new.calls.conn.asking
-            ⊎ HasNoShard (C.lacks node) self.old.place self.new.place self.old.shard result.end
-            self.old.calls.conn.asking self.new.calls.conn.asking }
-        ensures same { KeepsPlace self.old self.new }
-    {
-        let held = node.shard(rt, self.shard);
-        match held {
-            None => RunOutcome::of(Ran::Refused),
-            Some(shard) => {
-                let sids = std::mem::replace(&mut self.sids, Sids::new(self.alloc));
-                let mut tally = ShardTally::new(shard, sids);
-                self.ask_held(&mut tally)
-            }
-        }
-    }
-
     /// Asks its shard, which is held, up to a publication.
-    fn ask_held<S: ShardCalls>(&mut self, tally: &mut ShardTally<S>) -> RunOutcome
+    pub fn ask_held<S: ShardCalls>(&mut self, tally: &mut ShardTally<S>) -> RunOutcome
         ensures calls { RunsTo S.made self.old.calls.id SHARD_RUN self.old.place Hub self.new.place
             result.end self.old.calls.conn.asking tally.old.shard self.new.calls.conn.asking
             tally.new.shard }

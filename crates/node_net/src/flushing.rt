@@ -5,14 +5,15 @@ ghost use Rattle.std.specs.Bool.{OnFalse};
 ghost use Rattle.slab.specs.Slab.{get};
 ghost use Rattle.route_frames.specs.Canonical.{frame_bytes};
 ghost use Rattle.route_values.specs.declared.frames.RouteFrame.TheVariants as route;
-ghost use Rattle.server_calls.specs.Routed.{took, taken_of, WasRouted};
+ghost use Rattle.server_calls.specs.Routed.{took, taken_of};
 ghost use Rattle.node_net.specs.Keyed.{ChangesAt, EachStays};
 ghost use Rattle.node_net.specs.Sending.{SendsTaken, IsLimited, KeepsStream};
-ghost use Rattle.node_net.specs.Taking.{all_parts, keys_of, client_in, LendsAt, TakesOne, TakesOn, TakesParts, SendsPart, SendsEach, GoesOnAt, FlushesSome, FlushesAll};
+ghost use Rattle.node_net.specs.Taking.{all_parts, keys_of, client_in, LendsAt, TakesOne, TakesOn, SendsPart, SendsEach, GoesOnAt, FlushesSome, FlushesAll};
 ghost use Rattle.node_net.specs.Telling.{spelling, TellsFrames, TellsSome, TellsPeer};
 
 use crate::connection::{Cause, Ending};
 use crate::connections::Connections;
+use crate::holds::{swap_dirty_conns, take_frames};
 use crate::limits::{FRAMES, PEER_BACKLOG, TAKEN_AT_ONCE};
 use crate::parts::{Parts, let_go_beyond};
 use crate::server::Server;
@@ -20,7 +21,6 @@ use crate::taken::Taken;
 use net_streams::Stream;
 use route_frames::{Numbered, RouteFrame, encode};
 use server_calls::{HubCalls, ServerCalls, ShardCalls};
-use shard_core::DirtyConns;
 use std::alloc::{AllocError, Global};
 use std::sync::Wait;
 use subj::{Failure, MAX_PAYLOAD};
@@ -34,7 +34,7 @@ fn key_at(keys: &[usize], place: usize) -> Option<usize>
 
 /// Which connections may have something that waits for them.
 #[derive(Clone, Copy)]
-enum Awaited<'a> {
+pub(crate) enum Awaited<'a> {
     /// All of so many keys.
     All(usize),
     These(&'a [usize]),
@@ -43,7 +43,7 @@ enum Awaited<'a> {
 impl Awaited<'_> {
     /// How many there are.
     #[tactic(auto, using(crate::proofs::TakingLemmas::count_all))]
-    fn count(self) -> usize
+    pub fn count(self) -> usize
         ensures { result ≡ length (keys_of self.entry) }
     {
         match self {
@@ -75,32 +75,9 @@ impl<S: Stream> Connections<S> {
         }
     }
 
-    /// Takes what waits for clients of the shard of this number, from this place among these on, until enough is taken. The place where it
-    /// goes on.
-    #[tactic(auto, using(crate::proofs::TakingLemmas::takes_parts))]
-    fn take_some<C: ServerCalls, R: Wait>(
-        &mut self,
-        rt: &R,
-        node: C,
-        number: u64,
-        awaited: Awaited<'_>,
-        place: usize,
-        taken: &mut Taken,
-    ) -> Result<usize, AllocError>
-        ensures { TakesParts C.Shard.takes C.Shard.number (C.lacks node) number
-            (keys_of awaited.entry) place result self.old.table (all_parts taken.new)
-            self.new.table }
-    {
-        taken.clear();
-        match node.shard(rt, number) {
-            None => Ok(awaited.count()),
-            Some(mut shard) => self.take_from(&mut shard, awaited, place, taken),
-        }
-    }
-
     /// The same of a shard that is held.
     #[tactic(auto, using(crate::proofs::TakingLemmas::taken_none, crate::proofs::TakingLemmas::taken_to, crate::proofs::TakingLemmas::taken_all))]
-    fn take_from<H: ShardCalls>(
+    pub fn take_from<H: ShardCalls>(
         &mut self,
         shard: &mut H,
         awaited: Awaited<'_>,
@@ -296,7 +273,7 @@ fn frames_beside(backlog: usize) -> usize {
 }
 
 /// Takes at most so many frames that wait for the server at this place, of a hub that is held; none where there is no such one.
-fn frames_of<H: HubCalls>(
+pub(crate) fn frames_of<H: HubCalls>(
     hub: &mut H,
     alloc: Global,
     peer: usize,
@@ -309,32 +286,6 @@ fn frames_of<H: HubCalls>(
         Ok(frames) => Ok(frames),
         Err(Failure::Refused(_)) => Ok(Vec::new(alloc)),
         Err(Failure::OutOfMemory) => Err(AllocError),
-    }
-}
-
-/// The same, of a hub that is held for this call.
-fn take_frames<C: ServerCalls, R: Wait>(
-    rt: &R,
-    node: C,
-    alloc: Global,
-    peer: usize,
-    count: usize,
-) -> Result<Vec<Numbered>, AllocError>
-    ensures { WasRouted C.Hub.routed (took peer count (taken_of (λ frames. frames.items) result)) }
-{
-    let mut hub = node.hub(rt);
-    frames_of(&mut hub, alloc, peer, count)
-}
-
-/// Hands out for which clients of a shard something was put since the last time, for those that were handed out then.
-fn swap_dirty_conns<C: ServerCalls, R: Wait>(
-    rt: &R,
-    node: C,
-    shard: u64,
-    dirty_conns: &mut DirtyConns,
-) {
-    if let Some(mut shard) = node.shard(rt, shard) {
-        shard.swap_dirty_conns(dirty_conns);
     }
 }
 

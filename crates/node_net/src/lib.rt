@@ -16,7 +16,8 @@
 //! has all of them, and what is noted of each until it is done; `server` takes them and lets them go, and finds those of clients (`clients`) and of
 //! other servers (`peers`); `turning` and `flushing` are a turn of its loop, by what was `taken` for clients, in `parts`, `draining` is what a server
 //! that drains does, and `running` is the loop, which reaches other servers at their `addresses`, and is told by operators over a `control` socket.
-//! `shutdown` says when the loop ends, and which server drains, the `limits` when and how much of everything, and `faults` why no stream is taken.
+//! All that these ask of the server's shards and of its hub they ask by `holds`, which alone takes the locks. `shutdown` says when the loop ends, and
+//! which server drains, the `limits` when and how much of everything, and `faults` why no stream is taken.
 #![tactic(auto)]
 
 mod addresses;
@@ -29,6 +30,7 @@ mod draining;
 mod faults;
 mod flushing;
 mod handshake;
+mod holds;
 mod laws;
 mod limits;
 mod parts;

@@ -5,9 +5,10 @@ ghost use Rattle.std.specs.Prelude.{◌≡◌, ◌∷◌, ◌++◌, [], IfNone, 
 use crate::connection::{Cause, Link};
 use crate::faults::AddFault;
 use crate::handshake::{Handshake, Proving, Said};
+use crate::holds::accept;
 use crate::limits::STRANGERS;
 use crate::route_link::{RouteLink, Stage};
-use crate::server::{Server, accept, encode_info};
+use crate::server::{Server, encode_info};
 use arrayvec::ArrayVec;
 use net_streams::Stream;
 use peer_proof::{Acceptor, Dialer, FreshWord, Secret, WORD};

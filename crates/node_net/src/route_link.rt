@@ -3,12 +3,11 @@
 ghost use Rattle.std.specs.Prelude.{◌≡◌, ℕ, List, [], true, false, if◌then◌else◌, length, None, Some, Err, is_some, IfSome, IfNone, IfOk, IfErr, OnOk, OnErr, IsSome};
 ghost use Rattle.subj.specs.declared.failures.Failure.TheVariants as failure;
 ghost use Rattle.std.specs.Bool.{OnTrue, OnFalse};
-ghost use Rattle.server_calls.specs.Routed.{informed, connected, was_cut, WasRouted};
 ghost use Rattle.subj.specs.declared.limits.TheConstants.{WINDOW};
 ghost use Rattle.std.specs.Option.{option_zip};
 ghost use Rattle.node_net.specs.Routes.{place_of, dialed_place, kept_place as place_kept, has_proved_other as proved_other, is_of_life as of_life, IsOfPeer};
 ghost use Rattle.node_net.specs.Routes.{is_done, end_of_refusal, end_behind, end_of as ran_behind, EndsReading, IsKept, told_by, Looks, ReadsOn, ReadsBehind};
-ghost use Rattle.node_net.specs.Routes.{Applies, AppliesAhead, HandsNext, HasReceived, ReceivesAtHub, TakesInfo, TakesConnect, TakesConnectOf, Takes, Advances, CutsSession};
+ghost use Rattle.node_net.specs.Routes.{Applies, AppliesAhead, HandsNext, HasReceived, TakesInfo, TakesConnect, TakesConnectOf, Takes, Advances, CutsSession};
 ghost use Rattle.subj.specs.declared.limits.TheConstants.{ROUTE_LINE, MAX_SNAPSHOT};
 ghost use Rattle.wire_cut.specs.Cut.{new_cutter};
 ghost use Rattle.wire_cut.specs.Reading.{StandsAt};
@@ -18,13 +17,14 @@ ghost use Rattle.node_net.specs.declared.route_link.Stepped.TheVariants as step;
 ghost use Rattle.node_net.specs.declared.runs.RunOutcome.{RunOutcome};
 
 use crate::handshake::{Handshake, Proving};
+use crate::holds::{answer_to, connect, cut};
 use crate::placing::put;
 use crate::runs::{Ran, RunOutcome, cost_of};
 use bytes::Bytes;
 use hub_core::HubFault;
 use peer_proof::{Acceptor, HANDSHAKE_LINE, Secret};
 use route_frames::{Body, Numbered, RouteConnect, RouteFrame, RouteInfo, RouteLine, Unjoined};
-use route_session::{SessionFault, SessionId};
+use route_session::SessionId;
 use server_calls::{HubCalls, ServerCalls};
 use server_events::RefusalCause;
 use std::alloc::Global;
@@ -136,40 +136,6 @@ fn end_of<F: Drop>(fault: Failure<F>) -> Ran
         Failure::OutOfMemory => Ran::Short,
         Failure::Refused(_) => Ran::Refused,
     }
-}
-
-/// The session ends, where it stands.
-pub(crate) fn cut<C: ServerCalls, R: Wait>(rt: &R, node: C, session: SessionId)
-    ensures { WasRouted C.Hub.routed (was_cut session) }
-{
-    let mut hub = node.hub(rt);
-    hub.cut(session);
-}
-
-/// What the server that was dialed and has told who it is is told back.
-fn answer_to<C: ServerCalls, R: Wait>(
-    rt: &R,
-    node: C,
-    session: SessionId,
-    info: &RouteInfo,
-) -> Result<RouteConnect, Failure<SessionFault>>
-    ensures { WasRouted C.Hub.routed (informed session info.now result) }
-{
-    let mut hub = node.hub(rt);
-    hub.info(session, info)
-}
-
-/// The server that has dialed has told who it is.
-fn connect<C: ServerCalls, R: Wait>(
-    rt: &R,
-    node: C,
-    session: SessionId,
-    connect: &RouteConnect,
-) -> Result<(), Failure<SessionFault>>
-    ensures { WasRouted C.Hub.routed (connected session connect.now result) }
-{
-    let mut hub = node.hub(rt);
-    hub.connect(session, connect)
 }
 
 /// As how many bytes a message counts; anything else counts as none.
@@ -698,19 +664,9 @@ impl RouteLink {
         }
     }
 
-    /// Takes numbered frames, at most a window.
-    fn receive<C: ServerCalls, R: Wait>(&mut self, rt: &R, node: C, life: &Life) -> RunOutcome
-        ensures { ReceivesAtHub C.Hub.routed C.Hub.pushed life.now result.end self.old self.new }
-    {
-        let mut hub = node.hub(rt);
-        let run = self.receive_all(&mut hub, life);
-        hub.push_jobs(rt);
-        run
-    }
-
     /// The same of a hub that is held, which hands no jobs to the shards yet.
     #[tactic(auto, using(crate::proofs::RouteLemmas::none_so_far, crate::proofs::RouteLemmas::one_more, crate::proofs::RouteLemmas::ends_at, crate::proofs::RouteLemmas::ends_full))]
-    fn receive_all<H: HubCalls>(&mut self, hub: &mut H, life: &Life) -> RunOutcome
+    pub fn receive_all<H: HubCalls>(&mut self, hub: &mut H, life: &Life) -> RunOutcome
         ensures { HasReceived H.routed life.now WINDOW result.end self.old self.new hub.old
             hub.new }
     {

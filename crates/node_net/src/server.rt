@@ -5,32 +5,31 @@ ghost use Rattle.std.specs.Prelude.{IfSome, Ok};
 ghost use Rattle.node_net.specs.Holds.{LinkDetaches};
 ghost use Rattle.slab.specs.Slab.{Updates, get};
 
-use crate::client_link::ClientLink;
 use crate::clients::Clients;
 use crate::connection::{Cause, Connection, Link};
 use crate::connections::Connections;
 use crate::draining::Drain;
 use crate::faults::AddFault;
 use crate::handshake::Handshake;
+use crate::holds::{accept, attach, cut, dial};
 use crate::limits::GREETING;
 use crate::peers::Peers;
 use crate::proving::Guard;
-use crate::route_link::{RouteLink, Stage, cut};
+use crate::route_link::{RouteLink, Stage};
 use crate::taken::Taken;
-use client_conn::Refusal;
 use client_frames::ServerInfo;
 use net_streams::Stream;
 use rand_core::SeedableRng;
 use rand_pcg::Pcg64;
 use route_frames::{RouteFrame, RouteInfo, encode};
-use route_session::{SessionFault, SessionId};
-use server_calls::{HubCalls, ServerCalls};
+use route_session::SessionId;
+use server_calls::ServerCalls;
 use server_events::{Caller, Event, Events, PeerCause, RefusalCause};
 use shard_core::DirtyConns;
 use std::alloc::{AllocError, Global};
 use std::net::SocketAddr;
 use std::sync::Wait;
-use subj::{ConnId, Failure, HostText, NodeId, ServerIdentity as Life};
+use subj::{ConnId, HostText, NodeId, ServerIdentity as Life};
 
 /// Who is at the other end of a stream.
 #[derive(Clone, Copy)]
@@ -50,39 +49,6 @@ pub fn shard_of_client(client: u64, shards: u64) -> u64
     ensures { result ≡ (client - 1) % shards + 1 }
 {
     client.saturating_sub(1) % shards + 1
-}
-
-/// The next client of this shard, who is told first of this server.
-fn attach<C: ServerCalls, R: Wait>(
-    rt: &R,
-    node: C,
-    alloc: Global,
-    shard: u64,
-    server: &ServerInfo,
-) -> Result<ClientLink, AddFault> {
-    match node.shard(rt, shard) {
-        None => Err(AddFault::Client(Refusal::Other)),
-        Some(mut shard) => Ok(ClientLink::attach(alloc, &mut shard, server)?),
-    }
-}
-
-/// A session with a server that has dialed, and what that is told first.
-pub(crate) fn accept<C: ServerCalls, R: Wait>(
-    rt: &R,
-    node: C,
-) -> Result<(SessionId, RouteInfo), Failure<SessionFault>> {
-    let mut hub = node.hub(rt);
-    hub.accept()
-}
-
-/// A session with the server at this place, which was dialed.
-fn dial<C: ServerCalls, R: Wait>(
-    rt: &R,
-    node: C,
-    peer: usize,
-) -> Result<SessionId, Failure<SessionFault>> {
-    let mut hub = node.hub(rt);
-    hub.dial(peer)
 }
 
 /// Encodes what a server that has dialed is told first.

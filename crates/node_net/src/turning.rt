@@ -1,25 +1,26 @@
 //! A turn of the loop: what ready connections ask is done, what was put is written, and connections are closed that go.
 
-ghost use Rattle.std.specs.Prelude.{◌≡◌, true, MatchOption, Option, Result};
+ghost use Rattle.std.specs.Prelude.{◌≡◌, true, Option, Result};
 ghost use Rattle.std.specs.declared.alloc.AllocError.{AllocError};
 ghost use Rattle.hub_core.specs.declared.answers.CollectResult.{CollectResult};
-ghost use Rattle.node_net.specs.Turning.{Works, IsWorked, WorksShard, WorksBetween, WorksEach, CollectsEach};
+ghost use Rattle.node_net.specs.Turning.{Works, WorksShard, WorksBetween, WorksEach, CollectsEach};
 
 use crate::connection::Cause;
+use crate::holds::{push_jobs, work_shard};
 use crate::limits::TAKEN_EARLY;
 use crate::route_link::{Greeted, Stepped};
 use crate::runs::{Ran, RunOutcome};
 use crate::server::Server;
 use net_streams::Stream;
 use route_frames::{RouteConnect, RouteFrame, encode};
-use server_calls::{HubCalls, NextJob, ServerCalls, ShardCalls};
+use server_calls::{NextJob, ServerCalls, ShardCalls};
 use server_events::{Event, RefusalCause};
 use std::alloc::AllocError;
 use std::sync::Wait;
 
 /// How a shard was worked.
 #[derive(Clone, Copy)]
-struct Worked {
+pub(crate) struct Worked {
     /// How many jobs were worked to their ends.
     jobs: u64,
     has_deltas: bool,
@@ -63,30 +64,13 @@ fn work_jobs<H: ShardCalls, R: Wait>(rt: &R, shard: &mut H, worked: &mut Worked)
 }
 
 /// Works a shard that is held.
-fn work_held<H: ShardCalls, R: Wait>(rt: &R, shard: &mut H) -> Worked
+pub(crate) fn work_held<H: ShardCalls, R: Wait>(rt: &R, shard: &mut H) -> Worked
     ensures { Works H.worked result.is_urgent shard.old shard.new }
 {
     let mut worked = Worked::nothing();
     work_jobs(rt, shard, &mut worked);
     worked.has_deltas = shard.has_deltas();
     worked
-}
-
-/// Works the shard of this number, where there is one.
-fn work_shard<C: ServerCalls, R: Wait>(rt: &R, node: C, number: u64) -> Option<Worked>
-    ensures { MatchOption result (C.lacks node number)
-        (λ worked. IsWorked C.Shard.worked C.Shard.number worked.is_urgent number) }
-{
-    match node.shard(rt, number) {
-        None => None,
-        Some(mut shard) => Some(work_held(rt, &mut shard)),
-    }
-}
-
-/// Hands the jobs to the shards that some of these do not have.
-fn push_jobs<C: ServerCalls, R: Wait>(rt: &R, node: C) {
-    let mut hub = node.hub(rt);
-    hub.push_jobs(rt);
 }
 
 /// Encodes what a server that was dialed is told back.
