@@ -15,7 +15,9 @@ use Rattle.audit_log.specs.Logs.{Log, go_on, is_line_end, lines_behind, lines_of
 one_piece : {X : Type 0} (p : X → Bool) (xs : List X) → length xs ≤ position_or_len p xs → slice_split p xs ≡ xs ∷ []
 one_piece p [] past = refl
 one_piece p (x ∷ xs) past =
-    elim (p x) as (λ b. length (x ∷ xs) ≤ cond (not b) (1 + position_or_len p xs) 0 → cond b ([] ∷ slice_split p xs) (onto_first x (slice_split p xs)) ≡ (x ∷ xs) ∷ []) [
+    elim (p x) as (λ b.
+    length (x ∷ xs) ≤ cond (not b) (1 + position_or_len p xs) 0
+    → cond b ([] ∷ slice_split p xs) (onto_first x (slice_split p xs)) ≡ (x ∷ xs) ∷ []) [
       | true ↦ λ le. absurd (omega arith)
       | false ↦ λ le. ap (onto_first x) (one_piece p xs (omega arith))
     ] past
@@ -23,11 +25,15 @@ one_piece p (x ∷ xs) past =
 pub one_line : (bytes : List ℕ) → position is_line_end bytes ≡ None → lines_of bytes ≡ bytes ∷ []
 one_line bytes none = one_piece is_line_end bytes (not_below (position_or_len is_line_end bytes) (length bytes) none)
 
-pub line_and_rest : (bytes : List ℕ) (end : ℕ) → position is_line_end bytes ≡ Some end → lines_of bytes ≡ take end bytes ∷ lines_of (take (length bytes - (end + 1)) (drop (end + 1) bytes))
+pub line_and_rest : (bytes : List ℕ) (end : ℕ)
+    → position is_line_end bytes ≡ Some end
+    → lines_of bytes ≡ take end bytes ∷ lines_of (take (length bytes - (end + 1)) (drop (end + 1) bytes))
 line_and_rest bytes end found =
     let at = below (position_or_len is_line_end bytes) (length bytes) end found in
-    slice_split_first is_line_end bytes 0 at.0 ∙ ap (λ n. take n bytes ∷ lines_of (drop (n + 1) bytes)) at.1
-    ∙ ap (λ rest. take end bytes ∷ lines_of rest) (sym (take_all (length bytes - (end + 1)) (drop (end + 1) bytes) (omega (arith, length-drop (end + 1) bytes))))
+    slice_split_first is_line_end bytes 0 at.0
+    ∙ ap (λ n. take n bytes ∷ lines_of (drop (n + 1) bytes)) at.1
+    ∙ ap (λ rest. take end bytes ∷ lines_of rest)
+    (sym (take_all (length bytes - (end + 1)) (drop (end + 1) bytes) (omega (arith, length-drop (end + 1) bytes))))
 
 -- where no element passes, the first place is behind all
 pub past_all : {X : Type 0} (p : X → Bool) (xs : List X) → position p xs ≡ None → length xs ≡ position_or_len p xs
@@ -38,8 +44,16 @@ past_all p xs none =
 
 -- ---- lines that are gathered
 
-pub one_more : (log new : Log) (bytes line : List ℕ) (behind : Option (List ℕ)) → lines_of bytes ≡ line ∷ lines_behind behind → with_line log line ≡ Ok new → with_lines log (lines_of bytes) ≡ with_lines new (lines_behind behind)
-one_more log new bytes line behind cut is = ap (with_lines log) cut ∙ ap (λ r. go_on r (λ log. with_lines log (lines_behind behind))) is
+pub one_more : (log new : Log) (bytes line : List ℕ) (behind : Option (List ℕ))
+    → lines_of bytes ≡ line ∷ lines_behind behind
+    → with_line log line ≡ Ok new
+    → with_lines log (lines_of bytes) ≡ with_lines new (lines_behind behind)
+one_more log new bytes line behind cut is =
+    ap (with_lines log) cut ∙ ap (λ r. go_on r (λ log. with_lines log (lines_behind behind))) is
 
-pub one_refused : (log : Log) (bytes line : List ℕ) (behind : Option (List ℕ)) (fault : LogFault) → lines_of bytes ≡ line ∷ lines_behind behind → with_line log line ≡ Err fault → with_lines log (lines_of bytes) ≡ Err fault
-one_refused log bytes line behind fault cut is = ap (with_lines log) cut ∙ ap (λ r. go_on r (λ log. with_lines log (lines_behind behind))) is
+pub one_refused : (log : Log) (bytes line : List ℕ) (behind : Option (List ℕ)) (fault : LogFault)
+    → lines_of bytes ≡ line ∷ lines_behind behind
+    → with_line log line ≡ Err fault
+    → with_lines log (lines_of bytes) ≡ Err fault
+one_refused log bytes line behind fault cut is =
+    ap (with_lines log) cut ∙ ap (λ r. go_on r (λ log. with_lines log (lines_behind behind))) is

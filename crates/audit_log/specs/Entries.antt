@@ -1,4 +1,5 @@
--- What an object in a log tells (profile): a publication, a subscription or a placement. A server is given by its place, which `Logs` says.
+-- What an object in a log tells (profile): a publication, a subscription or a placement. A server
+-- is given by its place, which `Logs` says.
 use Rattle.std.specs.Prelude.{ℕ, true, false, List, codes, Option, Some, None, unwrap_or}
 use Rattle.serde_json.specs.Data.{Data}
 use Rattle.serde_json.specs.Find.{get}
@@ -85,4 +86,12 @@ placement_in node json = do
   headers ← optional truth (codes "headers") json
   queue ← optional_named_in queue_name_fault key.Queue json
   bytes ← bytes_in key.Bytes json
-  Some (record { step = step; life = life; conn = conn; id = id; mode = mode_of queue; bytes = bytes; headers = unwrap_or headers false })
+  Some (record {
+    step = step;
+    life = life;
+    conn = conn;
+    id = id;
+    mode = mode_of queue;
+    bytes = bytes;
+    headers = unwrap_or headers false;
+  })

@@ -1,5 +1,6 @@
--- A log (profile): lines of JSON, each of them a publication, a subscription or a placement; other lines are passed over. The servers of a
--- log have places, in the order in which subscriptions and placements name them.
+-- A log (profile): lines of JSON, each of them a publication, a subscription or a placement; other
+-- lines are passed over. The servers of a log have places, in the order in which subscriptions and
+-- placements name them.
 use Rattle.std.specs.Prelude.{◌≡◌, ℕ, Bool, false, nat_eq, List, [], ◌∷◌, ◌++◌, codes, position, Option, Some, None, Result, Ok, Err, if◌then◌else◌}
 use Rattle.std.specs.List.{slice_split, starts_with}
 use Rattle.std.specs.Str.{bytes_eq}
@@ -58,9 +59,13 @@ with_placement log json = do
   life ← get (codes "life") json
   server ← server_in (codes "node") life
   placement ← placement_in (place_in server log.names) json
-  Some (record log { names = with_name server log.names; placements = log.placements ++ placement ∷ [] })
+  Some (record log {
+    names = with_name server log.names;
+    placements = log.placements ++ placement ∷ [];
+  })
 
--- of the three members the first that is there counts, and an object that has none of them tells nothing
+-- of the three members the first that is there counts, and an object that has none of them tells
+-- nothing
 
 abbrev pub by_placement : Log → Option Data → Option Log
 by_placement log None = Some log
@@ -75,7 +80,9 @@ by_publication log None life placement = by_life log life placement
 by_publication log (Some json) life placement = with_publication log json
 
 abbrev pub with_object : Log → Data → Option Log
-with_object log json = by_publication log (get (codes "publication") json) (get (codes "life") json) (get (codes "placement") json)
+with_object log json =
+    by_publication log (get (codes "publication") json) (get (codes "life") json)
+    (get (codes "placement") json)
 
 -- ---- what a line tells
 
@@ -136,12 +143,14 @@ AddsObject meaning new (Ok x) = meaning ≡ Some new
 AddsObject meaning new (Err (Refused why)) = meaning ≡ None
 AddsObject meaning new (Err OutOfMemory) = Unit {0}
 
-abbrev pub AddsLine : {T : Type 0} → Result Log LogFault → Log → Result T (Failure LogFault) → Type 0
+abbrev pub AddsLine : {T : Type 0} → Result Log LogFault → Log → Result T (Failure LogFault)
+    → Type 0
 AddsLine meaning new (Ok x) = meaning ≡ Ok new
 AddsLine meaning new (Err (Refused fault)) = meaning ≡ Err fault
 AddsLine meaning new (Err OutOfMemory) = Unit {0}
 
-abbrev pub AddsLines : {T : Type 0} → Result Log LogFault → Log → Result T (Failure LogError) → Type 0
+abbrev pub AddsLines : {T : Type 0} → Result Log LogFault → Log → Result T (Failure LogError)
+    → Type 0
 AddsLines meaning new (Ok x) = meaning ≡ Ok new
 AddsLines meaning new (Err (Refused error)) = meaning ≡ Err error.fault
 AddsLines meaning new (Err OutOfMemory) = Unit {0}

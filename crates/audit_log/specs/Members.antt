@@ -1,5 +1,6 @@
--- The members of an object in a log (profile): of equal members the last one counts, as `serde_json` has it, and a member that nothing
--- asks for is not looked at. `null` is there, and of another kind.
+-- The members of an object in a log (profile): of equal members the last one counts, as
+-- `serde_json` has it, and a member that nothing asks for is not looked at. `null` is there, and of
+-- another kind.
 use Rattle.std.specs.Prelude.{ℕ, List, codes, Option, Some, None, option_map}
 use Rattle.std.specs.Result.{result_ok}
 use Rattle.serde_json.specs.Data.{Data}
@@ -59,7 +60,10 @@ named_in fault key json = do
   name ← bytes_in key json
   valid fault name
 
-unfoldable pub optional_named_in : (List ℕ → Option NameFault) → Text → Data → Option (Option (List ℕ))
+unfoldable pub optional_named_in : (List ℕ → Option NameFault)
+    → Text
+    → Data
+    → Option (Option (List ℕ))
 optional_named_in fault key json = do
   name ← optional_bytes_in key json
   valid_where_there fault name

@@ -1,4 +1,5 @@
--- How bytes are called in a line (profile): by one name where they are a text, and by another where they are hex digits.
+-- How bytes are called in a line (profile): by one name where they are a text, and by another where
+-- they are hex digits.
 use Rattle.std.specs.Prelude.{ℕ, List, ◌++◌, codes}
 use Rattle.audit_log.specs.declared.texts.Text.{Text}
 use Rattle.audit_log.specs.declared.texts.Text.TheVariants.{Subject, Reply, Headers, Payload, Pattern, Queue, Sid, Bytes}

@@ -4,6 +4,7 @@ pub mod Hubs
 pub mod HubEvents
 pub mod Shards
 pub mod ShardEvents
+pub mod ShardSteps
 pub mod NodeSteps
 pub mod Starts
 pub mod Views

@@ -1,4 +1,5 @@
--- What a step adds to the lists, as the code finds it: of the event, of what the server answers, and of what it tells closed.
+-- What a step adds to the lists, as the code finds it: of the event, of what the server answers,
+-- and of what it tells closed.
 use Rattle.std.specs.Prelude.{◌≡◌, ℕ, Bool, true, ◌&&◌, nat_eq, List, [], ◌∷◌, Option, Some, None, is_none, if◌then◌else◌}
 use Rattle.std.specs.Option.{option_map, option_to_list}
 use Rattle.std.specs.List.{list_any}
@@ -19,7 +20,14 @@ use Rattle.world_law.specs.State.{Publication, Life, is_sub}
 abbrev pub published_by_own : PubId → ℕ → OwnEvent → List Publication
 published_by_own id now (OfConn conn event) = []
 published_by_own id now (AtShard shard work) = []
-published_by_own id now (Publish p) = record { step = now; id = id; message = p.publication.message; publisher = p.conn; echo = p.publication.echo } ∷ []
+published_by_own id now (Publish p) =
+    record {
+      step = now;
+      id = id;
+      message = p.publication.message;
+      publisher = p.conn;
+      echo = p.publication.echo;
+    } ∷ []
 published_by_own id now (Collect shard) = []
 published_by_own id now Drain = []
 published_by_own id now (Dial q) = []
@@ -62,12 +70,21 @@ opening_by (OnInfo session info) = None
 opening_by (OnConnect session connect) = None
 
 pub record AreNoted (id : PubId) (now : ℕ) (e : NodeEvent) (noted : Noted) : Type 0 where
-  pub publication : option_to_list (option_map publication_of noted.publication) ≡ published_by id now e
+  pub publication :
+      option_to_list (option_map publication_of noted.publication) ≡ published_by id now e
   pub opening : noted.opening ≡ opening_by e
 
 -- where the answer tells that it was opened
 abbrev pub life_opened : ℕ → ℕ → ℕ → Opening → Answer → List Life
-life_opened node inc now o (answer.Opened sub) = record { id = record { node = node; inc = inc; sub = sub }; conn = o.conn; key = o.key; sid = o.sid; opened = now; closed = None } ∷ []
+life_opened node inc now o (answer.Opened sub) =
+    record {
+      id = record { node = node; inc = inc; sub = sub };
+      conn = o.conn;
+      key = o.key;
+      sid = o.sid;
+      opened = now;
+      closed = None;
+    } ∷ []
 life_opened node inc now o (answer.Attached conn) = []
 life_opened node inc now o answer.AlreadyOpen = []
 life_opened node inc now o (answer.Issued turn frames) = []
@@ -95,4 +112,8 @@ closes None sub = true
 closes (Some ended) sub = list_any (is_sub sub) ended
 
 abbrev pub closed_if : ℕ → ℕ → ℕ → Option (List SubId) → Life → Life
-closed_if now node inc ended life = if is_none life.closed && (nat_eq life.id.node node && (nat_eq life.id.inc inc && closes ended life.id.sub)) then record life { closed = Some now } else life
+closed_if now node inc ended life =
+    if is_none life.closed
+    && (nat_eq life.id.node node && (nat_eq life.id.inc inc && closes ended life.id.sub))
+    then record life { closed = Some now }
+    else life

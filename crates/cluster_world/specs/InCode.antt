@@ -45,13 +45,26 @@ outcomes_in delivery = outcome_of delivery.published ∷ map outcome_of delivery
 -- ---- the lists
 
 abbrev pub publication_of : Publication → state.Publication
-publication_of p = record { step = p.step; id = p.id; message = p.message; publisher = p.publisher; echo = p.echo }
+publication_of p = record {
+  step = p.step;
+  id = p.id;
+  message = p.message;
+  publisher = p.publisher;
+  echo = p.echo;
+}
 
 abbrev pub life_id_of : LifeId → state.LifeId
 life_id_of id = record { node = id.node; inc = id.inc; sub = id.sub }
 
 abbrev pub life_of : Life → state.Life
-life_of life = record { id = life_id_of life.id; conn = life.conn; key = life.key; sid = life.sid; opened = life.opened; closed = life.closed }
+life_of life = record {
+  id = life_id_of life.id;
+  conn = life.conn;
+  key = life.key;
+  sid = life.sid;
+  opened = life.opened;
+  closed = life.closed;
+}
 
 -- of the server that puts a message, its placement has the place and the incarnation alone
 abbrev pub placing_server : ℕ → ℕ → ServerIdentity

@@ -2,7 +2,8 @@
 pub mod Entered
 -- events, outcomes and lists as the code has them, and as the definitions do
 pub mod InCode
--- what a step adds to the lists, as the code finds it: of the event, of what the server answers, and of what it tells closed
+-- what a step adds to the lists, as the code finds it: of the event, of what the server answers,
+-- and of what it tells closed
 pub mod Adding
 -- a cluster in code, as its callers see it, and what always holds of it
 pub mod Value

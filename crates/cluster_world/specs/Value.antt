@@ -41,7 +41,14 @@ pub record Listed : Type 0 where
   pub sent : List RouteFrame
 
 abbrev pub no_lists : Listed
-no_lists = record { started = []; publications = []; lives = []; placements = []; entered = []; sent = [] }
+no_lists = record {
+  started = [];
+  publications = [];
+  lives = [];
+  placements = [];
+  entered = [];
+  sent = [];
+}
 
 abbrev pub listed_of : Lists → Listed
 listed_of l = record {
@@ -66,14 +73,20 @@ with_start node inc old = record old { started = old.started ++ (node, inc) ∷ 
 
 -- a server is stopped, and its lives close
 abbrev pub with_closed : Acted → Listed → Listed
-with_closed acted old = record old { lives = map (closed_if acted.step acted.node acted.inc None) old.lives }
+with_closed acted old = record old {
+  lives = map (closed_if acted.step acted.node acted.inc None) old.lives;
+}
 
 -- a server's step adds what was noted before it and what the server did
 abbrev pub listed_with : Acted → Noted → Did → Listed → Listed
 listed_with acted noted did old = record old {
   publications = old.publications ++ option_to_list (option_map publication_of noted.publication);
-  lives = map (closed_if acted.step acted.node acted.inc (Some did.ended.items)) old.lives ++ opened_lives acted.node acted.inc acted.step noted.opening (answer_of did.answer);
-  placements = old.placements ++ placements_put (placing_server acted.node acted.inc) acted.step did.entries.items;
+  lives =
+      map (closed_if acted.step acted.node acted.inc (Some did.ended.items)) old.lives
+      ++ opened_lives acted.node acted.inc acted.step noted.opening (answer_of did.answer);
+  placements =
+      old.placements
+      ++ placements_put (placing_server acted.node acted.inc) acted.step did.entries.items;
   entered = old.entered ++ map (entered_by acted.step acted.node acted.inc) did.entries.items;
   sent = old.sent ++ did.frames.items;
 }
@@ -107,7 +120,8 @@ slot_refusal event (Some None) = Some fault.NodeDown
 slot_refusal event (Some (Some s)) = served_refusal event s
 
 -- the server at the place made the step of this event
-pub record IsMade (n now : ℕ) (event : Option NodeEvent) (old : List (Option Served)) (made : Made) (new : List (Option Served)) : Type 0 where
+pub record IsMade (n now : ℕ) (event : Option NodeEvent) (old : List (Option Served)) (made : Made)
+    (new : List (Option Served)) : Type 0 where
   pub e : NodeEvent
   pub is : event ≡ Some e
   pub x : Served
@@ -131,10 +145,22 @@ abbrev pub cluster_of : ServerIdentity → Cluster
 cluster_of server = record { names = server.names; shards = server.shards }
 
 abbrev pub world_of : ℕ → List (Option Served) → Listed → World
-world_of step nodes l = record { step = step; nodes = map running_in nodes; started = l.started; publications = l.publications; lives = l.lives; placements = l.placements; sent = l.sent }
+world_of step nodes l = record {
+  step = step;
+  nodes = map running_in nodes;
+  started = l.started;
+  publications = l.publications;
+  lives = l.lives;
+  placements = l.placements;
+  sent = l.sent;
+}
 
 abbrev pub value_of_parts : ServerIdentity → ℕ → List (Option Served) → Listed → Shown
-value_of_parts server step nodes l = record { cluster = cluster_of server; world = world_of step nodes l; entered = l.entered }
+value_of_parts server step nodes l = record {
+  cluster = cluster_of server;
+  world = world_of step nodes l;
+  entered = l.entered;
+}
 
 -- no server is up, and nothing was done
 abbrev pub new_shown : Cluster → Shown
@@ -146,7 +172,8 @@ new_cluster c = if is_server (server_at c 0 1) then Some (new_shown c) else None
 
 -- the server of the same cluster at this place, if it has that
 abbrev pub server_in : ServerIdentity → ℕ → ℕ → Option ServerIdentity
-server_in server n inc = server_of (record { names = server.names; me = n; inc = inc; shards = server.shards })
+server_in server n inc =
+    server_of (record { names = server.names; me = n; inc = inc; shards = server.shards })
 
 -- ---- the calls
 
@@ -172,10 +199,12 @@ abbrev pub AreStepped : Shown → List Event → List Outcome → Shown → Type
 AreStepped old [] [] new = new ≡ old
 AreStepped old [] (outcome ∷ outcomes) new = ⊥
 AreStepped old (event ∷ events) [] new = ⊥
-AreStepped old (event ∷ events) (outcome ∷ outcomes) new = (mid : Shown) × IsStepped old event outcome mid × AreStepped mid events outcomes new
+AreStepped old (event ∷ events) (outcome ∷ outcomes) new =
+    (mid : Shown) × IsStepped old event outcome mid × AreStepped mid events outcomes new
 
 -- a run of it, with these outcomes, and its steps
-pub record Ran (old : Shown) (events : List Event) (outcomes : List Outcome) (new : Shown) : Type 0 where
+pub record Ran (old : Shown) (events : List Event) (outcomes : List Outcome) (new : Shown) :
+    Type 0 where
   pub cluster : new.cluster ≡ old.cluster
   pub run : Answers old.cluster old.world events outcomes new.world
   pub steps : AreStepped old events outcomes new
@@ -190,15 +219,19 @@ pub record IsPart (old : Shown) (events : List Event) (new : Shown) : Type 0 whe
 
 -- each server that is up is that of its place in this cluster
 abbrev pub InPlace : Cluster → List (Option Served) → Type 0
-InPlace c nodes = (n : ℕ) (s : Served) → slice_get nodes n ≡ Some (Some s) → s.server ≡ server_at c n s.server.inc
+InPlace c nodes =
+    (n : ℕ) (s : Served) → slice_get nodes n ≡ Some (Some s) → s.server ≡ server_at c n s.server.inc
 
 -- some steps in turn lead here from a new cluster
 abbrev pub CameBySteps : Shown → Type 0
-CameBySteps v = ∥ ((events : List Event) × (outcomes : List Outcome) × AreStepped (new_shown v.cluster) events outcomes v) ∥₁
+CameBySteps v =
+    ∥ ((events : List Event) × (outcomes : List Outcome)
+    × AreStepped (new_shown v.cluster) events outcomes v) ∥₁
 
--- the names are apart, and within the limits with the number of shards; the servers are in their places; and some run ends here, with
--- all that its steps put
-pub record IsKept (server : ServerIdentity) (nodes : List (Option Served)) (v : Shown) : Type 0 where
+-- the names are apart, and within the limits with the number of shards; the servers are in their
+-- places; and some run ends here, with all that its steps put
+pub record IsKept (server : ServerIdentity) (nodes : List (Option Served)) (v : Shown) :
+    Type 0 where
   pub apart : IsCluster (cluster_of server)
   pub tested : is_server (server_at (cluster_of server) 0 1) ≡ true
   pub size : length nodes ≡ length server.names
@@ -208,9 +241,12 @@ pub record IsKept (server : ServerIdentity) (nodes : List (Option Served)) (v : 
 
 -- ---- what a publish gives
 
--- What a publish with these events behind it gives where the cluster was settled for it and had room, and the events are the work
--- that it makes, in an order of theirs: nothing is refused, and each plain subscription and each queue name has its message once.
+-- What a publish with these events behind it gives where the cluster was settled for it and had
+-- room, and the events are the work that it makes, in an order of theirs: nothing is refused, and
+-- each plain subscription and each queue name has its message once.
 abbrev pub GivesOnce : Shown → ℕ → hub.Publication → List Event → List Outcome → Shown → Type 0
 GivesOnce old n p order outcomes new =
-    (a : Running) → IsRight old.cluster old.world n a p order
-    → ∥ IsDelivered old.world (next_id (server_at old.cluster n a.inc) a.node.hub) (subject_of p) outcomes new.world ∥₁
+    (a : Running)
+    → IsRight old.cluster old.world n a p order
+    → ∥ IsDelivered old.world (next_id (server_at old.cluster n a.inc) a.node.hub) (subject_of p)
+    outcomes new.world ∥₁

@@ -54,7 +54,9 @@ fn is_ended(ended: &[SubId], sub: SubId) -> bool
 
 /// The life closes, if it is an open one of the server and one of these, or of all.
 fn close_if(life: &mut Life, acted: &Acted, ended: Option<&[SubId]>)
-    ensures { life_of life.new ≡ closed_if acted.now.step acted.now.node acted.now.inc (option_copied ended.entry) (life_of life.old) }
+    ensures { life_of life.new
+        ≡ closed_if acted.now.step acted.now.node acted.now.inc (option_copied ended.entry)
+        (life_of life.old) }
 {
     if life.closed.is_none() && life.id.node == acted.node && life.id.inc == acted.inc {
         let closes = match ended {
@@ -69,7 +71,9 @@ fn close_if(life: &mut Life, acted: &Acted, ended: Option<&[SubId]>)
 
 /// Each of the lives of the server closes that is one of these, or of all.
 pub(crate) fn close_lives(lives: &mut [Life], acted: &Acted, ended: Option<&[SubId]>)
-    ensures { map life_of lives.new ≡ map (closed_if acted.now.step acted.now.node acted.now.inc (option_copied ended.entry)) (map life_of lives.old) }
+    ensures { map life_of lives.new
+        ≡ map (closed_if acted.now.step acted.now.node acted.now.inc (option_copied ended.entry))
+        (map life_of lives.old) }
 {
     for i in 0..lives.len() {
         close_if(&mut lives[i], acted, ended);
@@ -79,7 +83,9 @@ pub(crate) fn close_lives(lives: &mut [Life], acted: &Acted, ended: Option<&[Sub
 /// The publication is listed. Takes no memory.
 fn keep_publication(publications: &mut Vec<Publication>, publication: Option<Publication>)
     requires { vec_len publications.old < vec_capacity publications.old }
-    ensures { map publication_of publications.new.items ≡ map publication_of publications.old.items ++ option_to_list (option_map publication_of publication) }
+    ensures { map publication_of publications.new.items
+        ≡ map publication_of publications.old.items
+        ++ option_to_list (option_map publication_of publication) }
 {
     if let Some(publication) = publication {
         publications.push_reserved(publication);
@@ -89,7 +95,9 @@ fn keep_publication(publications: &mut Vec<Publication>, publication: Option<Pub
 /// The subscription is listed, if the answer tells that it was opened. Takes no memory.
 fn keep_life(lives: &mut Vec<Life>, acted: &Acted, opening: Option<Opening>, answer: &Answer)
     requires { vec_len lives.old < vec_capacity lives.old }
-    ensures { map life_of lives.new.items ≡ map life_of lives.old.items ++ opened_lives acted.now.node acted.now.inc acted.now.step opening (answer_of answer.now) }
+    ensures { map life_of lives.new.items
+        ≡ map life_of lives.old.items
+        ++ opened_lives acted.now.node acted.now.inc acted.now.step opening (answer_of answer.now) }
 {
     let Some(Opening { conn, key, sid }) = opening else {
         return;
@@ -113,7 +121,9 @@ fn keep_life(lives: &mut Vec<Life>, acted: &Acted, opening: Option<Opening>, ans
 
 /// All lives of the server close. Takes no memory.
 fn close_all_lives(lives: &mut Vec<Life>, acted: &Acted)
-    ensures { map life_of lives.new.items ≡ map (closed_if acted.now.step acted.now.node acted.now.inc None) (map life_of lives.old.items) }
+    ensures { map life_of lives.new.items
+        ≡ map (closed_if acted.now.step acted.now.node acted.now.inc None)
+        (map life_of lives.old.items) }
 {
     close_lives(lives, acted, None);
 }
@@ -122,8 +132,13 @@ fn close_all_lives(lives: &mut Vec<Life>, acted: &Acted)
 #[tactic(auto, using(crate::proofs::Clusters::Finds::flat_more, crate::proofs::Clusters::Finds::no_more))]
 fn keep_entries(placements: &mut Vec<Placements>, acted: &Acted, entries: Vec<Placed>)
     requires { vec_len placements.old < vec_capacity placements.old }
-    ensures messages { flat_map placements_in placements.new.items ≡ flat_map placements_in placements.old.items ++ placements_put (placing_server acted.now.node acted.now.inc) acted.now.step entries.items }
-    ensures entries { flat_map entered_in placements.new.items ≡ flat_map entered_in placements.old.items ++ map (entered_by acted.now.step acted.now.node acted.now.inc) entries.items }
+    ensures messages { flat_map placements_in placements.new.items
+        ≡ flat_map placements_in placements.old.items
+        ++ placements_put (placing_server acted.now.node acted.now.inc) acted.now.step
+        entries.items }
+    ensures entries { flat_map entered_in placements.new.items
+        ≡ flat_map entered_in placements.old.items
+        ++ map (entered_by acted.now.step acted.now.node acted.now.inc) entries.items }
 {
     if entries.is_empty() {
         return;
@@ -163,11 +178,21 @@ fn keep_all(
     requires placements { vec_len placements.old < vec_capacity placements.old }
     requires sent { vec_len sent.old < vec_capacity sent.old }
     ensures answer { result ≡ did.answer }
-    ensures publications { map publication_of publications.new.items ≡ map publication_of publications.old.items ++ option_to_list (option_map publication_of noted.publication) }
-    ensures lives { map life_of lives.new.items ≡ map (closed_if acted.step acted.node acted.inc (Some did.ended.items)) (map life_of lives.old.items) ++ opened_lives acted.node acted.inc acted.step noted.opening (answer_of did.answer) }
-    ensures placements { flat_map placements_in placements.new.items ≡ flat_map placements_in placements.old.items ++ placements_put (placing_server acted.node acted.inc) acted.step did.entries.items }
-    ensures entered { flat_map entered_in placements.new.items ≡ flat_map entered_in placements.old.items ++ map (entered_by acted.step acted.node acted.inc) did.entries.items }
-    ensures sent { flat_map items_of sent.new.items ≡ flat_map items_of sent.old.items ++ did.frames.items }
+    ensures publications { map publication_of publications.new.items
+        ≡ map publication_of publications.old.items
+        ++ option_to_list (option_map publication_of noted.publication) }
+    ensures lives { map life_of lives.new.items
+        ≡ map (closed_if acted.step acted.node acted.inc (Some did.ended.items))
+        (map life_of lives.old.items)
+        ++ opened_lives acted.node acted.inc acted.step noted.opening (answer_of did.answer) }
+    ensures placements { flat_map placements_in placements.new.items
+        ≡ flat_map placements_in placements.old.items
+        ++ placements_put (placing_server acted.node acted.inc) acted.step did.entries.items }
+    ensures entered { flat_map entered_in placements.new.items
+        ≡ flat_map entered_in placements.old.items
+        ++ map (entered_by acted.step acted.node acted.inc) did.entries.items }
+    ensures sent { flat_map items_of sent.new.items
+        ≡ flat_map items_of sent.old.items ++ did.frames.items }
 {
     let Noted {
         publication,
@@ -289,7 +314,9 @@ fn publication_in(
     id: PubId,
     step: u64,
 ) -> Result<Option<Publication>, AllocError>
-    ensures { IfOk result (λ noted. option_to_list (option_map publication_of noted) ≡ published_by id step (asked_of asked.now)) }
+    ensures { IfOk result (λ noted.
+        option_to_list (option_map publication_of noted)
+        ≡ published_by id step (asked_of asked.now)) }
 {
     let EventRef::Own(
         OwnEvent::Publish {

@@ -62,7 +62,8 @@ fn plan_at<T: SubTable, R: Race>(
     publication: &Pub,
     word: u64,
 ) -> Result<Option<PublishPlan>, AllocError>
-    ensures { IfOk result (λ plan. IsPlannedAt (Some (Some node.now)) (publication_by conn publication.now word) plan) }
+    ensures { IfOk result (λ plan.
+        IsPlannedAt (Some (Some node.now)) (publication_by conn publication.now word) plan) }
 {
     match node.plan_publish(conn, publication, word) {
         Ok(plan) => Ok(Some(plan)),
@@ -124,7 +125,10 @@ impl<T: SubTable, R: Race> Nodes<T, R> {
 
     /// Whether the server at the place is at rest, knows each other one, and has not too many queue names for the subject.
     fn is_settled_at(&self, n: usize, node: &Node<T, R>, subject: &Subject) -> bool
-        ensures { result ≡ (is_node_settled node.now.node && (are_peers_settled n (running_of node.now) 0 (map running_in self.now) && has_few_names node.now.server node.now.node.hub subject.now)) }
+        ensures { result
+            ≡ (is_node_settled node.now.node
+            && (are_peers_settled n (running_of node.now) 0 (map running_in self.now)
+            && has_few_names node.now.server node.now.node.hub subject.now)) }
     {
         node.is_settled() && self.is_met(n, node) && node.has_few_names(subject)
     }
@@ -132,7 +136,10 @@ impl<T: SubTable, R: Race> Nodes<T, R> {
     /// Whether every server is up, at rest, and known to the others, with not too many queue names for the subject. Takes no
     /// memory.
     pub(crate) fn are_settled(&self, subject: &Subject) -> bool
-        ensures { (c : Cluster) → InPlace c self.now → result ≡ are_settled c subject.now (map running_in self.now) 0 (map running_in self.now) }
+        ensures { (c : Cluster)
+            → InPlace c self.now
+            → result
+            ≡ are_settled c subject.now (map running_in self.now) 0 (map running_in self.now) }
     {
         for (place, slot) in self.slots.iter().enumerate() {
             let Some(node) = slot else {
@@ -183,7 +190,8 @@ impl<T: SubTable, R: Race> Nodes<T, R> {
         publication: &Pub,
         word: u64,
     ) -> Result<Option<PublishPlan>, AllocError>
-        ensures { IfOk result (λ plan. IsPlannedAt (slice_get self.now n) (publication_by conn publication.now word) plan) }
+        ensures { IfOk result (λ plan.
+            IsPlannedAt (slice_get self.now n) (publication_by conn publication.now word) plan) }
     {
         match self.slots.get(n) {
             None => Ok(None),
@@ -201,8 +209,10 @@ impl<T: SubTable, R: Race> Nodes<T, R> {
         now: u64,
     ) -> Result<Made, AllocError>
         requires within { n < length self.old }
-        requires cause { slot_refusal (option_map asked_of asked.now) (slice_get self.old n) ≡ None }
-        ensures ok { IfOk result (λ made. IsMade n now (option_map asked_of asked.now) self.old made self.new) }
+        requires cause { slot_refusal (option_map asked_of asked.now) (slice_get self.old n)
+            ≡ None }
+        ensures ok { IfOk result (λ made.
+            IsMade n now (option_map asked_of asked.now) self.old made self.new) }
         ensures err { OnErr result (self.new ≡ self.old) }
     {
         let slot = &mut self.slots[n];
@@ -263,7 +273,9 @@ pub(crate) fn start_fault<T: SubTable, R: Race>(
     n: usize,
     inc: Incarnation,
 ) -> Option<WorldFault>
-    ensures { result ≡ start_refusal n inc (listed_of lists.now).started (option_map running_in (slice_get nodes.now n)) }
+    ensures { result
+        ≡ start_refusal n inc (listed_of lists.now).started
+        (option_map running_in (slice_get nodes.now n)) }
 {
     match nodes.is_up(n) {
         None => Some(WorldFault::NoSuch),
@@ -335,7 +347,9 @@ fn connect_on(session: SessionId, frame: Option<&RouteFrame>) -> Option<EventRef
 /// What an event asks of the server that it is for; none where there is no frame of that kind with its
 /// number.
 pub(crate) fn asked_by<'a>(event: &'a Event, sent: &'a [Vec<RouteFrame>]) -> Option<EventRef<'a>>
-    ensures { (w : World) → w.sent ≡ flat_map items_of sent.now → option_map asked_of result ≡ event_for w (event_of event.now) }
+    ensures { (w : World)
+        → w.sent ≡ flat_map items_of sent.now
+        → option_map asked_of result ≡ event_for w (event_of event.now) }
 {
     match event {
         Event::Start { .. } | Event::Stop { .. } => None,

@@ -64,7 +64,8 @@ impl<T: SubTable, R: Race> Model for World<T, R> {
 
     ghost view = { λ w. value_of_parts w.server w.step w.nodes (listed_of w.lists) };
 
-    ghost invariant = { λ w. IsKept w.server w.nodes (value_of_parts w.server w.step w.nodes (listed_of w.lists)) };
+    ghost invariant = { λ w.
+        IsKept w.server w.nodes (value_of_parts w.server w.step w.nodes (listed_of w.lists)) };
 }
 
 impl<T: SubTable, R: Race> World<T, R> {
@@ -76,7 +77,8 @@ impl<T: SubTable, R: Race> World<T, R> {
         names: Vec<NodeId>,
         shards: u64,
     ) -> Result<Option<World<T, R>>, AllocError>
-        ensures { IfOk result (λ made. made ≡ new_cluster (record { names = names.items; shards = shards })) }
+        ensures { IfOk result (λ made.
+            made ≡ new_cluster (record { names = names.items; shards = shards })) }
     {
         new_worlds_are_carried();
         let Some(inc) = Incarnation::new(1) else {
@@ -179,7 +181,8 @@ impl<T: SubTable, R: Race> World<T, R> {
     /// for a frame to it; and no more than [`subj::MAX_QUEUE_NAMES`] queue names with an open member match. Takes no memory.
     pub fn settled_for(&self, subject: &Subject) -> bool
         ensures same { result ≡ settled_for self.now.cluster self.now.world subject.now }
-        ensures exact { ∥ (result ≡ true) ↔ IsSettled self.now.cluster self.now.world subject.now ∥₁ }
+        ensures exact { ∥ (result ≡ true)
+            ↔ IsSettled self.now.cluster self.now.world subject.now ∥₁ }
     {
         let _step = self.step;
         carried_tests_are_exact();
@@ -221,7 +224,8 @@ impl<T: SubTable, R: Race> World<T, R> {
         publication: &Pub,
         word: u64,
     ) -> Result<Option<PublishPlan>, AllocError>
-        ensures { IfOk result (λ plan. IsPlannedBy self.now node (publication_by conn publication.now word) plan) }
+        ensures { IfOk result (λ plan.
+            IsPlannedBy self.now node (publication_by conn publication.now word) plan) }
     {
         let _step = self.step;
         self.nodes.plan(node, conn, publication, word)
@@ -243,9 +247,12 @@ impl<T: SubTable, R: Race> World<T, R> {
     /// A refusal: only the step is counted. Required: some event is refused so.
     fn refuse(&mut self, fault: WorldFault, now: u64) -> Outcome
         requires now { now ≡ self.old.world.step + 1 }
-        requires cause { (e : Asked) × (world_refusal self.old.cluster self.old.world e ≡ Some fault) }
+        requires cause { (e : Asked)
+            × (world_refusal self.old.cluster self.old.world e ≡ Some fault) }
         ensures told { outcome_of result ≡ Refused fault }
-        ensures stepped { (e : Asked) → world_refusal self.old.cluster self.old.world e ≡ Some fault → IsStepped self.old e (Refused fault) self.new }
+        ensures stepped { (e : Asked)
+            → world_refusal self.old.cluster self.old.world e ≡ Some fault
+            → IsStepped self.old e (Refused fault) self.new }
     {
         steps_keep_worlds_carried();
         self.step = now;
@@ -257,7 +264,8 @@ impl<T: SubTable, R: Race> World<T, R> {
         requires now { now ≡ self.old.world.step + 1 }
         requires at { IsFor n (event_of event.now) }
         requires cause { world_refusal self.old.cluster self.old.world (event_of event.now) ≡ None }
-        ensures ok { IfOk result (λ outcome. IsStepped self.old (event_of event.now) (outcome_of outcome) self.new) }
+        ensures ok { IfOk result (λ outcome.
+            IsStepped self.old (event_of event.now) (outcome_of outcome) self.new) }
         ensures err { OnErr result (self.new ≡ self.old) }
     {
         steps_keep_worlds_carried();
@@ -284,7 +292,8 @@ impl<T: SubTable, R: Race> World<T, R> {
     fn ask(&mut self, n: usize, event: &Event, now: u64) -> Result<Outcome, AllocError>
         requires now { now ≡ self.old.world.step + 1 }
         requires at { IsFor n (event_of event.now) }
-        ensures ok { IfOk result (λ outcome. IsStepped self.old (event_of event.now) (outcome_of outcome) self.new) }
+        ensures ok { IfOk result (λ outcome.
+            IsStepped self.old (event_of event.now) (outcome_of outcome) self.new) }
         ensures err { OnErr result (self.new ≡ self.old) }
     {
         let asked = asked_by(event, &self.lists.sent);
@@ -298,7 +307,8 @@ impl<T: SubTable, R: Race> World<T, R> {
     fn bring_up(&mut self, n: usize, inc: Incarnation, now: u64) -> Result<Outcome, AllocError>
         requires now { now ≡ self.old.world.step + 1 }
         requires cause { world_refusal self.old.cluster self.old.world (Start n inc) ≡ None }
-        ensures ok { IfOk result (λ outcome. IsStepped self.old (Start n inc) (outcome_of outcome) self.new) }
+        ensures ok { IfOk result (λ outcome.
+            IsStepped self.old (Start n inc) (outcome_of outcome) self.new) }
         ensures err { OnErr result (self.new ≡ self.old) }
     {
         steps_keep_worlds_carried();
@@ -321,7 +331,8 @@ impl<T: SubTable, R: Race> World<T, R> {
     /// The server at the place starts, unless that is refused.
     fn start(&mut self, n: usize, inc: Incarnation, now: u64) -> Result<Outcome, AllocError>
         requires now { now ≡ self.old.world.step + 1 }
-        ensures ok { IfOk result (λ outcome. IsStepped self.old (Start n inc) (outcome_of outcome) self.new) }
+        ensures ok { IfOk result (λ outcome.
+            IsStepped self.old (Start n inc) (outcome_of outcome) self.new) }
         ensures err { OnErr result (self.new ≡ self.old) }
     {
         match start_fault(&self.nodes, &self.lists, n, inc) {
@@ -374,7 +385,8 @@ impl<T: SubTable, R: Race> World<T, R> {
     /// changes nothing else. Want of memory is no step, and leaves all as it was; it is also told once `u64::MAX`
     /// steps were made.
     pub fn step(&mut self, event: &Event) -> Result<Outcome, AllocError>
-        ensures ok { IfOk result (λ outcome. IsStepped self.old (event_of event.now) (outcome_of outcome) self.new) }
+        ensures ok { IfOk result (λ outcome.
+            IsStepped self.old (event_of event.now) (outcome_of outcome) self.new) }
         ensures err { OnErr result (self.new ≡ self.old) }
     {
         if self.step == u64::MAX {
@@ -393,7 +405,8 @@ impl<T: SubTable, R: Race> World<T, R> {
 
     /// The steps of events in turn, up to the first for which memory is wanting.
     fn make(&mut self, events: &[Event]) -> Result<Vec<Outcome>, AllocError>
-        ensures ok { IfOk result (λ outcomes. Ran self.old (map event_of events.now) (map outcome_of outcomes.items) self.new) }
+        ensures ok { IfOk result (λ outcomes.
+            Ran self.old (map event_of events.now) (map outcome_of outcomes.items) self.new) }
         ensures err { OnErr result (IsPart self.old (map event_of events.now) self.new) }
     {
         let mut outcomes = Vec::new(self.alloc);
@@ -412,8 +425,10 @@ impl<T: SubTable, R: Race> World<T, R> {
 
     /// The steps of an event and of those behind it in turn, up to the first for which memory is wanting.
     fn make_behind(&mut self, first: &Event, rest: &[Event]) -> Result<Delivery, AllocError>
-        ensures ok { IfOk result (λ made. Ran self.old (event_of first.now ∷ map event_of rest.now) (outcomes_in made) self.new) }
-        ensures err { OnErr result (IsPart self.old (event_of first.now ∷ map event_of rest.now) self.new) }
+        ensures ok { IfOk result (λ made.
+            Ran self.old (event_of first.now ∷ map event_of rest.now) (outcomes_in made) self.new) }
+        ensures err { OnErr result
+            (IsPart self.old (event_of first.now ∷ map event_of rest.now) self.new) }
     {
         let published = match self.step(first) {
             Ok(outcome) => outcome,
@@ -444,9 +459,19 @@ impl<T: SubTable, R: Race> World<T, R> {
         word: u64,
         order: &[Event],
     ) -> Result<Delivery, AllocError>
-        ensures ok { IfOk result (λ made. Ran self.old (At node (Publish (record { conn = conn; publication = publication.now; word = word })) ∷ map event_of order.now) (outcomes_in made) self.new) }
-        ensures delivers { IfOk result (λ made. GivesOnce self.old node (record { conn = conn; publication = publication.now; word = word }) (map event_of order.now) (outcomes_in made) self.new) }
-        ensures err { OnErr result (IsPart self.old (At node (Publish (record { conn = conn; publication = publication.now; word = word })) ∷ map event_of order.now) self.new) }
+        ensures ok { IfOk result (λ made.
+            Ran self.old
+            (At node (Publish (record { conn = conn; publication = publication.now; word = word }))
+            ∷ map event_of order.now)
+            (outcomes_in made) self.new) }
+        ensures delivers { IfOk result (λ made.
+            GivesOnce self.old node
+            (record { conn = conn; publication = publication.now; word = word })
+            (map event_of order.now) (outcomes_in made) self.new) }
+        ensures err { OnErr result (IsPart self.old
+            (At node (Publish (record { conn = conn; publication = publication.now; word = word }))
+            ∷ map event_of order.now)
+            self.new) }
     {
         let _step = self.step;
         carried_worlds_deliver();
@@ -468,7 +493,8 @@ impl<T: SubTable, R: Race> World<T, R> {
     /// before it are made, and the lists are those of these. Either way the headline holds of the lists, and
     /// what it rests on, as [`World::keeps_headline`] says.
     pub fn run(&mut self, events: &[Event]) -> Result<Vec<Outcome>, AllocError>
-        ensures ok { IfOk result (λ outcomes. Ran self.old (map event_of events.now) (map outcome_of outcomes.items) self.new) }
+        ensures ok { IfOk result (λ outcomes.
+            Ran self.old (map event_of events.now) (map outcome_of outcomes.items) self.new) }
         ensures err { OnErr result (IsPart self.old (map event_of events.now) self.new) }
         ensures headline { ∥ Headline self.new.world ∥₁ }
         ensures names { ∥ Names self.new.world ∥₁ }

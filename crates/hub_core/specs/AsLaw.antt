@@ -1,4 +1,5 @@
--- A hub and its steps as the cluster law sees them: servers by their places, and neither outboxes nor who is up.
+-- A hub and its steps as the cluster law sees them: servers by their places, and neither outboxes
+-- nor who is up.
 use Rattle.std.specs.Prelude.{◌≡◌, ◌≢◌, ℕ, suc, ◌+◌, ◌<◌, ◌≤◌, List, [], map, length, slice_get, Some, None}
 use Rattle.cluster_law.specs.Config.{Config, every_rule}
 use Rattle.cluster_law.specs.Hub as law
@@ -58,12 +59,22 @@ routed_of server frame content queues = record {
 }
 
 abbrev pub news_of : ServerIdentity → Frame → messages.Body → messages.News
-news_of server frame body = record { origin = place server frame.from; inc = frame.inc; to = place server frame.to; to_inc = frame.to_inc; number = frame.number; body = body }
+news_of server frame body = record {
+  origin = place server frame.from;
+  inc = frame.inc;
+  to = place server frame.to;
+  to_inc = frame.to_inc;
+  number = frame.number;
+  body = body;
+}
 
 abbrev pub as_said : ServerIdentity → Frame → Body → messages.Frame
-as_said server frame (Plus weighted) = messages.Interest (news_of server frame (messages.Changed (interest.Up (weighted_of weighted))))
-as_said server frame (Minus key) = messages.Interest (news_of server frame (messages.Changed (interest.Gone (key_of key))))
-as_said server frame (Snapshot keys) = messages.Interest (news_of server frame (messages.Snapshot (view_of keys)))
+as_said server frame (Plus weighted) =
+    messages.Interest (news_of server frame (messages.Changed (interest.Up (weighted_of weighted))))
+as_said server frame (Minus key) =
+    messages.Interest (news_of server frame (messages.Changed (interest.Gone (key_of key))))
+as_said server frame (Snapshot keys) =
+    messages.Interest (news_of server frame (messages.Snapshot (view_of keys)))
 as_said server frame (Msg content queues) = messages.Message (routed_of server frame content queues)
 
 abbrev pub frame_of : ServerIdentity → Frame → messages.Frame
@@ -72,11 +83,21 @@ frame_of server frame = as_said server frame frame.body
 -- ---- the hub
 
 abbrev pub peer_of : Peer → law.Peer
-peer_of peer = record { seen = peer.seen; mark = peer.mark; heard = peer.heard.mark; view = view_of peer.heard.keys }
+peer_of peer = record {
+  seen = peer.seen;
+  mark = peer.mark;
+  heard = peer.heard.mark;
+  view = view_of peer.heard.keys;
+}
 
 -- of the counts the view that they are told as; a server that drains tells of none
 abbrev pub hub_of : State → law.Hub
-hub_of hub = record { published = hub.published; changed = hub.changed; interest = view_of (told_interest hub); peers = map peer_of hub.peers }
+hub_of hub = record {
+  published = hub.published;
+  changed = hub.changed;
+  interest = view_of (told_interest hub);
+  peers = map peer_of hub.peers;
+}
 
 -- ---- the law's parameters: how many queue names, and how a change acts on a view
 
@@ -90,7 +111,8 @@ abbrev pub own_view : interest.View → View
 own_view view = map own_weighted view
 
 abbrev pub follow : interest.Change → interest.View → interest.View
-follow (interest.Up weighted) view = view_of (view_with_change (Up (own_weighted weighted)) (own_view view))
+follow (interest.Up weighted) view =
+    view_of (view_with_change (Up (own_weighted weighted)) (own_view view))
 follow (interest.Gone key) view = view_of (view_with_change (Gone (own_key key)) (own_view view))
 follow interest.Cleared view = []
 
@@ -104,54 +126,107 @@ HasPeers server hub = length hub.peers ≡ length server.names
 
 -- no shard of the server is a window behind
 abbrev pub HasRoom : ServerIdentity → State → List ℕ → Type 0
-HasRoom server hub finished = (place done : ℕ) → place < server.shards → slice_get finished place ≡ Some done → suc hub.issued ≤ done + WINDOW
+HasRoom server hub finished =
+    (place done : ℕ)
+    → place < server.shards
+    → slice_get finished place ≡ Some done
+    → suc hub.issued ≤ done + WINDOW
 
-pub record IsPublished (c : Config) (server : ServerIdentity) (hub : State) (p : Publication) (finished : List ℕ) (now : ℕ) : Type 0 where
+pub record IsPublished (c : Config) (server : ServerIdentity) (hub : State) (p : Publication)
+    (finished : List ℕ) (now : ℕ) : Type 0 where
   pub frames : List messages.Routed
   pub frames_are : map (frame_of server) (frames_of server hub p) ≡ map messages.Message frames
   pub id_is : id_of server (next_id server hub) ≡ law.next_id server.me server.inc (hub_of hub)
-  pub publishes : HubPublishes every_rule (routing c) server.me (hub_of hub) (record { id = law.next_id server.me server.inc (hub_of hub); content = content_of p.publication.message; step = now }) (own_job server hub p).queues frames (hub_of (after_publish server hub p))
+  pub publishes : HubPublishes every_rule (routing c) server.me (hub_of hub)
+      (record {
+        id = law.next_id server.me server.inc (hub_of hub);
+        content = content_of p.publication.message;
+        step = now;
+      })
+      (own_job server hub p).queues frames (hub_of (after_publish server hub p))
   pub room : HasRoom server hub finished
   pub peers : HasPeers server (after_publish server hub p)
 
 -- a publish that is not refused
 abbrev pub PublishesInLaw : Type 0
-PublishesInLaw = (c : Config) (server : ServerIdentity) (hub : State) (p : Publication) (finished : List ℕ) (now : ℕ) → IsListed server → HasPeers server hub → publish_refusal server hub p finished ≡ None → IsPublished c server hub p finished now
+PublishesInLaw =
+    (c : Config) (server : ServerIdentity) (hub : State) (p : Publication) (finished : List ℕ)
+    (now : ℕ)
+    → IsListed server
+    → HasPeers server hub
+    → publish_refusal server hub p finished ≡ None
+    → IsPublished c server hub p finished now
 
 abbrev pub TakenAs : Config → ServerIdentity → State → List ℕ → Frame → messages.Frame → Type 0
-TakenAs c server hub finished frame (messages.Message m) = HubReceives every_rule server.me server.inc (hub_of hub) m (hub_of (after_receive server hub frame)) × HasRoom server hub finished
-TakenAs c server hub finished frame (messages.Interest news) = HubHears every_rule (routing c) server.me server.inc (hub_of hub) news (hub_of (after_receive server hub frame))
+TakenAs c server hub finished frame (messages.Message m) =
+    HubReceives every_rule server.me server.inc (hub_of hub) m
+    (hub_of (after_receive server hub frame))
+    × HasRoom server hub finished
+TakenAs c server hub finished frame (messages.Interest news) =
+    HubHears every_rule (routing c) server.me server.inc (hub_of hub) news
+    (hub_of (after_receive server hub frame))
 TakenAs c server hub finished frame (messages.Greeting origin inc) = ⊥
 
 -- a frame that is not refused: a message is received, and news are heard
 abbrev pub ReceivesInLaw : Type 0
-ReceivesInLaw = (c : Config) (server : ServerIdentity) (hub : State) (finished : List ℕ) (frame : Frame) → IsListed server → HasPeers server hub → receive_refusal server hub finished frame ≡ None → TakenAs c server hub finished frame (frame_of server frame) × HasPeers server (after_receive server hub frame)
+ReceivesInLaw =
+    (c : Config) (server : ServerIdentity) (hub : State) (finished : List ℕ) (frame : Frame)
+    → IsListed server
+    → HasPeers server hub
+    → receive_refusal server hub finished frame ≡ None
+    → TakenAs c server hub finished frame (frame_of server frame)
+    × HasPeers server (after_receive server hub frame)
 
 pub record IsMet (server : ServerIdentity) (hub : State) (q inc : ℕ) : Type 0 where
   pub meets : HubMeets every_rule server.me (hub_of hub) q inc (hub_of (up server hub q inc))
-  pub snapshot : IsTold server.me server.inc (hub_of hub) [] (hub_of hub) (frame_of server (snapshot_to server hub q inc))
+  pub snapshot : IsTold server.me server.inc (hub_of hub) [] (hub_of hub)
+      (frame_of server (snapshot_to server hub q inc))
   pub peers : HasPeers server (up server hub q inc)
 
 -- another server comes up at an incarnation that is not below the one seen
 abbrev pub MeetsInLaw : Type 0
-MeetsInLaw = (server : ServerIdentity) (hub : State) (q inc : ℕ) (peer : Peer) → IsListed server → HasPeers server hub → q ≢ server.me → slice_get hub.peers q ≡ Some peer → peer.seen ≤ inc → IsMet server hub q inc
+MeetsInLaw =
+    (server : ServerIdentity) (hub : State) (q inc : ℕ) (peer : Peer)
+    → IsListed server
+    → HasPeers server hub
+    → q ≢ server.me
+    → slice_get hub.peers q ≡ Some peer
+    → peer.seen ≤ inc
+    → IsMet server hub q inc
 
-pub record IsAnnounced (c : Config) (server : ServerIdentity) (hub : State) (deltas : List Delta) : Type 0 where
-  pub announces : HubAnnounces (routing c) server.me server.inc (hub_of hub) (map change_of (changes_of hub deltas)) (map (frame_of server) (collect_frames server hub deltas)) (hub_of (after_collect server hub deltas))
+pub record IsAnnounced (c : Config) (server : ServerIdentity) (hub : State) (deltas : List Delta) :
+    Type 0 where
+  pub announces : HubAnnounces (routing c) server.me server.inc (hub_of hub)
+      (map change_of (changes_of hub deltas))
+      (map (frame_of server) (collect_frames server hub deltas))
+      (hub_of (after_collect server hub deltas))
   pub within : IsInterest (after_collect server hub deltas).counts
   pub peers : HasPeers server (after_collect server hub deltas)
 
 -- a collect that is not refused, of counts within their limits
 abbrev pub AnnouncesInLaw : Type 0
-AnnouncesInLaw = (c : Config) (server : ServerIdentity) (hub : State) (deltas : List Delta) → IsListed server → HasPeers server hub → IsInterest hub.counts → collect_refusal hub deltas ≡ None → IsAnnounced c server hub deltas
+AnnouncesInLaw =
+    (c : Config) (server : ServerIdentity) (hub : State) (deltas : List Delta)
+    → IsListed server
+    → HasPeers server hub
+    → IsInterest hub.counts
+    → collect_refusal hub deltas ≡ None
+    → IsAnnounced c server hub deltas
 
 pub record IsDrained (c : Config) (server : ServerIdentity) (hub : State) : Type 0 where
-  pub announces : HubAnnounces (routing c) server.me server.inc (hub_of hub) (map change_of clearing) (map (frame_of server) (drain_frames server hub)) (hub_of (after_drain server hub))
+  pub announces : HubAnnounces (routing c) server.me server.inc (hub_of hub)
+      (map change_of clearing) (map (frame_of server) (drain_frames server hub))
+      (hub_of (after_drain server hub))
   pub peers : HasPeers server (after_drain server hub)
 
 -- a drain that is not refused
 abbrev pub DrainsInLaw : Type 0
-DrainsInLaw = (c : Config) (server : ServerIdentity) (hub : State) → IsListed server → HasPeers server hub → drain_refusal hub ≡ None → IsDrained c server hub
+DrainsInLaw =
+    (c : Config) (server : ServerIdentity) (hub : State)
+    → IsListed server
+    → HasPeers server hub
+    → drain_refusal hub ≡ None
+    → IsDrained c server hub
 
 -- a cut and a take are not seen
 pub record IsUnseen (server : ServerIdentity) (hub new : State) : Type 0 where
@@ -159,7 +234,13 @@ pub record IsUnseen (server : ServerIdentity) (hub new : State) : Type 0 where
   pub peers : HasPeers server new
 
 abbrev pub CutsUnseen : Type 0
-CutsUnseen = (server : ServerIdentity) (hub : State) (q : ℕ) → HasPeers server hub → IsUnseen server hub (cut hub q)
+CutsUnseen =
+    (server : ServerIdentity) (hub : State) (q : ℕ)
+    → HasPeers server hub
+    → IsUnseen server hub (cut hub q)
 
 abbrev pub TakesUnseen : Type 0
-TakesUnseen = (server : ServerIdentity) (hub : State) (q count : ℕ) → HasPeers server hub → IsUnseen server hub (after_take hub q count)
+TakesUnseen =
+    (server : ServerIdentity) (hub : State) (q count : ℕ)
+    → HasPeers server hub
+    → IsUnseen server hub (after_take hub q count)

@@ -37,9 +37,12 @@ address_fault server frame =
 
 -- news that are not heard; a message is none
 abbrev pub interest_fault : interest.Heard → ℕ → Body → Option HubFault
-interest_fault heard number (Plus weighted) = option_map fault_of_interest (news_fault heard (Changed number (Up weighted)))
-interest_fault heard number (Minus key) = option_map fault_of_interest (news_fault heard (Changed number (Gone key)))
-interest_fault heard number (Snapshot keys) = option_map fault_of_interest (news_fault heard (Whole number keys))
+interest_fault heard number (Plus weighted) =
+    option_map fault_of_interest (news_fault heard (Changed number (Up weighted)))
+interest_fault heard number (Minus key) =
+    option_map fault_of_interest (news_fault heard (Changed number (Gone key)))
+interest_fault heard number (Snapshot keys) =
+    option_map fault_of_interest (news_fault heard (Whole number keys))
 interest_fault heard number (Msg content queues) = None
 
 abbrev pub heard_by : interest.Heard → ℕ → Body → interest.Heard
@@ -72,9 +75,12 @@ abbrev pub with_frame : Frame → Peer → Peer
 with_frame frame peer = record peer { outbox = peer.outbox ++ frame ∷ [] }
 
 -- each is to a server of the cluster, and each outbox has room for those that are to its peer
-pub record HasRoomFor (server : ServerIdentity) (frames : List Frame) (peers : List Peer) : Type 0 where
+pub record HasRoomFor (server : ServerIdentity) (frames : List Frame) (peers : List Peer) :
+    Type 0 where
   pub listed : All (λ frame. place server frame.to < length server.names) frames
-  pub room : (q : ℕ) (peer : Peer) → slice_get peers q ≡ Some peer → length peer.outbox + length (filter (is_to server q) frames) ≤ ROUTE_FRAMES
+  pub room : (q : ℕ) (peer : Peer)
+      → slice_get peers q ≡ Some peer
+      → length peer.outbox + length (filter (is_to server q) frames) ≤ ROUTE_FRAMES
 
 -- ---- a publish
 
@@ -87,7 +93,11 @@ pub record IsPlanned (server : ServerIdentity) (hub : State) (frames : List Fram
 
 -- these frames are put, and the numbers count up
 abbrev pub after_frames : ServerIdentity → State → List Frame → State
-after_frames server hub frames = record hub { issued = hub.issued + 1; published = hub.published + 1; peers = with_frames server frames 0 hub.peers }
+after_frames server hub frames = record hub {
+  issued = hub.issued + 1;
+  published = hub.published + 1;
+  peers = with_frames server frames 0 hub.peers;
+}
 
 -- ---- a collect
 
@@ -97,17 +107,29 @@ pub record WereSeen (peers : List Peer) : Type 0 where
 
 -- the change of this number, to the peer at place q
 abbrev pub change_to : ServerIdentity → ℕ → Change → ℕ → Peer → Frame
-change_to server number change q peer = record { from = own_name server; inc = server.inc; to = name_of server q; to_inc = peer.seen; number = number; body = body_of change }
+change_to server number change q peer = record {
+  from = own_name server;
+  inc = server.inc;
+  to = name_of server q;
+  to_inc = peer.seen;
+  number = number;
+  body = body_of change;
+}
 
 -- so many changes and these frames are those of deltas that are not refused
-pub record AreCounted (server : ServerIdentity) (hub : State) (deltas : List Delta) (count : ℕ) (frames : List Frame) : Type 0 where
+pub record AreCounted (server : ServerIdentity) (hub : State) (deltas : List Delta) (count : ℕ)
+    (frames : List Frame) : Type 0 where
   pub taken : collect_refusal hub deltas ≡ None
   pub count_is : count ≡ count_of_changes hub deltas
   pub frames_are : frames ≡ collect_frames server hub deltas
 
 -- so many changes are told, by these frames
 abbrev pub after_changes : ServerIdentity → State → Counts → ℕ → List Frame → State
-after_changes server hub counts count frames = record hub { changed = hub.changed + count; counts = counts; peers = with_frames server frames 0 (map (without_slow count) hub.peers) }
+after_changes server hub counts count frames = record hub {
+  changed = hub.changed + count;
+  counts = counts;
+  peers = with_frames server frames 0 (map (without_slow count) hub.peers);
+}
 
 -- ---- a drain
 
@@ -116,8 +138,10 @@ pub record IsDrainOf (hub : Hub) (frames : List Frame) (cut : List ℕ) : Type 0
   pub frames_are : frames ≡ drain_frames hub.server hub.state
   pub cut_are : cut ≡ peers_too_slow hub.state
 
--- what a collect of these deltas is planned as: what becomes of the counts, the changes, the frames, and the peers that are cut
-pub record IsTellingOf (hub : Hub) (deltas : List Delta) (recount : Recount) (changes : List Change) (frames : List Frame) (cut : List ℕ) : Type 0 where
+-- what a collect of these deltas is planned as: what becomes of the counts, the changes, the
+-- frames, and the peers that are cut
+pub record IsTellingOf (hub : Hub) (deltas : List Delta) (recount : Recount) (changes : List Change)
+    (frames : List Frame) (cut : List ℕ) : Type 0 where
   pub recount_is : IsRecountOf hub.state.counts deltas recount
   pub changes_are : changes ≡ changes_of hub.state deltas
   pub frames_are : frames ≡ collect_frames hub.server hub.state deltas

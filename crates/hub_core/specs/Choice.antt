@@ -10,9 +10,11 @@ use Rattle.hub_core.specs.State.{State, Peer}
 
 -- a peer that is up, with room for one frame more
 abbrev pub is_eligible : ServerIdentity → ℕ → Peer → Bool
-is_eligible server q peer = not (nat_eq q server.me) && (peer.up && nat_lt (length peer.outbox) ROUTE_FRAMES)
+is_eligible server q peer =
+    not (nat_eq q server.me) && (peer.up && nat_lt (length peer.outbox) ROUTE_FRAMES)
 
--- what a server weighs for a queue name (profile): its own by its counts, which are those that were collected from its shards; an eligible peer by what it has told; and no other
+-- what a server weighs for a queue name (profile): its own by its counts, which are those that were
+-- collected from its shards; an eligible peer by what it has told; and no other
 abbrev pub weight_at : ServerIdentity → Counts → List ℕ → List ℕ → ℕ → Peer → ℕ
 weight_at server counts subject name q peer =
     if nat_eq q server.me then weight_in subject name counts
@@ -21,7 +23,9 @@ weight_at server counts subject name q peer =
 -- each server with its weight, in the order of the servers, from the one at place q
 abbrev pub weights_from : ServerIdentity → Counts → List ℕ → List ℕ → ℕ → List Peer → List Weighted
 weights_from server counts subject name q [] = []
-weights_from server counts subject name q (peer ∷ peers) = (name_of server q, weight_at server counts subject name q peer) ∷ weights_from server counts subject name (suc q) peers
+weights_from server counts subject name q (peer ∷ peers) =
+    (name_of server q, weight_at server counts subject name q peer)
+    ∷ weights_from server counts subject name (suc q) peers
 
 abbrev pub weights : ServerIdentity → State → List ℕ → List ℕ → List Weighted
 weights server hub subject name = weights_from server hub.counts subject name 0 hub.peers
@@ -39,7 +43,10 @@ names_for choice server_name names = filter (λ name. is_named server_name (choi
 
 abbrev pub names_from : ServerIdentity → List ℕ → ℕ → List Peer → List (List ℕ) → List (List ℕ)
 names_from server subject q [] names = names
-names_from server subject q (peer ∷ peers) names = names_from server subject (suc q) peers (if is_eligible server q peer then names_in subject peer.heard.keys names else names)
+names_from server subject q (peer ∷ peers) names =
+    names_from server subject (suc q) peers
+    (if is_eligible server q peer then names_in subject peer.heard.keys names else names)
 
 abbrev pub queue_names : ServerIdentity → State → List ℕ → List (List ℕ)
-queue_names server hub subject = names_from server subject 0 hub.peers (names_in subject hub.counts [])
+queue_names server hub subject =
+    names_from server subject 0 hub.peers (names_in subject hub.counts [])

@@ -6,7 +6,8 @@ use Rattle.subj.specs.declared.keys.Delta.{Delta}
 use Rattle.route_values.specs.Frames.{Frame}
 use Rattle.hub_core.specs.Publishing.{Publication}
 
--- what crosses a lock comes along: the last turns that the shards finished, that of shard 1 first, or the deltas of the shard of this number
+-- what crosses a lock comes along: the last turns that the shards finished, that of shard 1 first,
+-- or the deltas of the shard of this number
 pub data Event : Type 0 where
   Publish : (publication : Publication) (finished : List ℕ) → Event
   Receive : (frame : Frame) (finished : List ℕ) → Event

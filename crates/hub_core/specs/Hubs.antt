@@ -30,7 +30,17 @@ pub record DoesStep (old : Hub) (event : Event) (answer : Answer) (new : Hub) : 
 -- ---- the fields of a hub in code
 
 abbrev pub hub_of_parts : ServerIdentity → ℕ → ℕ → ℕ → Bool → Counts → List Peer → Hub
-hub_of_parts server issued published changed draining counts peers = record { server = server; state = record { issued = issued; published = published; changed = changed; draining = draining; counts = counts; peers = peers } }
+hub_of_parts server issued published changed draining counts peers = record {
+  server = server;
+  state = record {
+    issued = issued;
+    published = published;
+    changed = changed;
+    draining = draining;
+    counts = counts;
+    peers = peers;
+  };
+}
 
 -- the server is one of its cluster, and no number is beyond its limit
 pub record IsKept (hub : Hub) : Type 0 where

@@ -22,7 +22,8 @@ pub mod Steps
 pub mod Calls
 -- a hub with the server that it is of, and the calls on it
 pub mod Hubs
--- a hub and its steps as the cluster law sees them: servers by their places, and neither outboxes nor who is up
+-- a hub and its steps as the cluster law sees them: servers by their places, and neither outboxes
+-- nor who is up
 pub mod AsLaw
 -- closed examples: what a hub answers, by hand
 pub mod Examples

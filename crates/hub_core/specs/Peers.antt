@@ -12,13 +12,28 @@ use Rattle.hub_core.specs.State.{State, Peer, peer_in_life, changed_at}
 abbrev pub told_interest : State → View
 told_interest hub = if hub.draining then [] else told_view hub.counts
 
--- all interest that is told, at the number of the last change, to an incarnation of the peer at place q
+-- all interest that is told, at the number of the last change, to an incarnation of the peer at
+-- place q
 abbrev pub snapshot_to : ServerIdentity → State → ℕ → ℕ → Frame
-snapshot_to server hub q inc = record { from = own_name server; inc = server.inc; to = name_of server q; to_inc = inc; number = hub.changed; body = Snapshot (told_interest hub) }
+snapshot_to server hub q inc = record {
+  from = own_name server;
+  inc = server.inc;
+  to = name_of server q;
+  to_inc = inc;
+  number = hub.changed;
+  body = Snapshot (told_interest hub);
+}
 
 -- a session with an incarnation of the peer is kept: it is up, and a snapshot is all that waits
 abbrev pub up : ServerIdentity → State → ℕ → ℕ → State
-up server hub q inc = record hub { peers = changed_at (λ peer. record (peer_in_life peer inc) { up = true; outbox = snapshot_to server hub q inc ∷ [] }) q hub.peers }
+up server hub q inc = record hub {
+  peers =
+      changed_at (λ peer. record (peer_in_life peer inc) {
+        up = true;
+        outbox = snapshot_to server hub q inc ∷ [];
+      })
+      q hub.peers;
+}
 
 -- the kept session has ended: marks, view and outbox stay
 abbrev pub cut : State → ℕ → State
@@ -37,4 +52,6 @@ abbrev pub first_frames : State → ℕ → ℕ → List Frame
 first_frames hub q count = take count (outbox_of (slice_get hub.peers q))
 
 abbrev pub after_take : State → ℕ → ℕ → State
-after_take hub q count = record hub { peers = changed_at (λ peer. record peer { outbox = drop count peer.outbox }) q hub.peers }
+after_take hub q count = record hub {
+  peers = changed_at (λ peer. record peer { outbox = drop count peer.outbox }) q hub.peers;
+}

@@ -1,4 +1,5 @@
--- Receive: which numbered frames of peers are taken, and what they change (profile). Nothing is sent on: a message goes one hop (NATS documentation, "Cluster Protocol").
+-- Receive: which numbered frames of peers are taken, and what they change (profile). Nothing is
+-- sent on: a message goes one hop (NATS documentation, "Cluster Protocol").
 use Rattle.std.specs.Prelude.{ℕ, ◌+◌, Bool, true, false, not, nat_eq, nat_lt, nat_le, List, Option, Some, None, if◌then◌else◌}
 use Rattle.std.specs.Option.{option_map, option_or}
 use Rattle.std.specs.Str.{bytes_eq}
@@ -17,19 +18,25 @@ use Rattle.hub_core.specs.Faults.{fault_of_interest}
 use Rattle.hub_core.specs.Publishing.{busy_fault}
 use Rattle.hub_core.specs.State.{State, Peer, peer_of, peer_in_life, changed_at}
 
--- ---- refusals: 63, 64, 65, 66, then 67, 60, 62 of a message, and 67, 68, 69 of interest; all of them as against what is known of the frame's incarnation
+-- ---- refusals: 63, 64, 65, 66, then 67, 60, 62 of a message, and 67, 68, 69 of interest; all of
+-- them as against what is known of the frame's incarnation
 
 -- a number at or below the mark was taken already; numbers above it may be left out
 abbrev pub message_fault : ServerIdentity → State → Peer → ℕ → List ℕ → Option HubFault
 message_fault server hub base number finished =
     if nat_le number base.mark then Some Late
-    else option_or (busy_fault server hub finished) (if nat_le MAX_COUNTER hub.issued then Some Spent else None)
+    else option_or (busy_fault server hub finished)
+    (if nat_le MAX_COUNTER hub.issued then Some Spent else None)
 
 abbrev pub body_fault : ServerIdentity → State → Peer → ℕ → List ℕ → Body → Option HubFault
-body_fault server hub base number finished (Plus weighted) = option_map fault_of_interest (news_fault base.heard (Changed number (Up weighted)))
-body_fault server hub base number finished (Minus key) = option_map fault_of_interest (news_fault base.heard (Changed number (Gone key)))
-body_fault server hub base number finished (Snapshot keys) = option_map fault_of_interest (news_fault base.heard (Whole number keys))
-body_fault server hub base number finished (Msg content queues) = message_fault server hub base number finished
+body_fault server hub base number finished (Plus weighted) =
+    option_map fault_of_interest (news_fault base.heard (Changed number (Up weighted)))
+body_fault server hub base number finished (Minus key) =
+    option_map fault_of_interest (news_fault base.heard (Changed number (Gone key)))
+body_fault server hub base number finished (Snapshot keys) =
+    option_map fault_of_interest (news_fault base.heard (Whole number keys))
+body_fault server hub base number finished (Msg content queues) =
+    message_fault server hub base number finished
 
 abbrev pub origin_fault : ServerIdentity → State → List ℕ → Frame → Option Peer → Option HubFault
 origin_fault server hub finished frame None = Some NotInCluster
@@ -47,9 +54,15 @@ receive_refusal server hub finished frame =
 
 -- of a message its number is the mark now; a change or a snapshot is heard
 abbrev pub told_by : Body → ℕ → Peer → Peer
-told_by (Plus weighted) number base = record base { heard = heard_after base.heard (Changed number (Up weighted)) }
-told_by (Minus key) number base = record base { heard = heard_after base.heard (Changed number (Gone key)) }
-told_by (Snapshot keys) number base = record base { heard = heard_after base.heard (Whole number keys) }
+told_by (Plus weighted) number base = record base {
+  heard = heard_after base.heard (Changed number (Up weighted));
+}
+told_by (Minus key) number base = record base {
+  heard = heard_after base.heard (Changed number (Gone key));
+}
+told_by (Snapshot keys) number base = record base {
+  heard = heard_after base.heard (Whole number keys);
+}
 told_by (Msg content queues) number base = record base { mark = number }
 
 abbrev pub has_message : Body → Bool
@@ -62,7 +75,9 @@ has_message (Msg content queues) = true
 abbrev pub after_receive : ServerIdentity → State → Frame → State
 after_receive server hub frame = record hub {
   issued = (if has_message frame.body then hub.issued + 1 else hub.issued);
-  peers = changed_at (λ peer. told_by frame.body frame.number (peer_in_life peer frame.inc)) (place server frame.from) hub.peers;
+  peers =
+      changed_at (λ peer. told_by frame.body frame.number (peer_in_life peer frame.inc))
+      (place server frame.from) hub.peers;
 }
 
 -- the job of a message, with the queue names that its origin has picked this server for

@@ -8,7 +8,8 @@ use Rattle.hub_core.specs.InMind.{AreInMind}
 use Rattle.hub_core.specs.Publishing.{Publication, choice_of}
 
 -- each of the names has its place, where the server stands that was chosen for it
-pub record IsServed (server : ServerIdentity) (hub : State) (p : Publication) (names : List (List ℕ)) (servers : List (Option (List ℕ))) : Type 0 where
+pub record IsServed (server : ServerIdentity) (hub : State) (p : Publication)
+    (names : List (List ℕ)) (servers : List (Option (List ℕ))) : Type 0 where
   pub few : length names ≤ MAX_QUEUE_NAMES
   pub room : length names ≤ length servers
   pub picks : take (length names) servers ≡ map (choice_of server hub p) names
@@ -18,9 +19,11 @@ pub record IsServed (server : ServerIdentity) (hub : State) (p : Publication) (n
 -- no peer is eligible, from the one at place q on
 abbrev pub is_alone_from : ServerIdentity → ℕ → List Peer → Bool
 is_alone_from server q [] = true
-is_alone_from server q (peer ∷ peers) = not (is_eligible server q peer) && is_alone_from server (suc q) peers
+is_alone_from server q (peer ∷ peers) =
+    not (is_eligible server q peer) && is_alone_from server (suc q) peers
 
 -- no peer is eligible, and these names of its own counts want the subject
-pub record ServesAlone (server : ServerIdentity) (hub : State) (subject : List ℕ) (names : List (List ℕ)) : Type 0 where
+pub record ServesAlone (server : ServerIdentity) (hub : State) (subject : List ℕ)
+    (names : List (List ℕ)) : Type 0 where
   pub alone : is_alone_from server 0 hub.peers ≡ true
   pub in_mind : AreInMind hub.counts subject names

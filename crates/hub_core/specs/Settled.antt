@@ -7,10 +7,14 @@ use Rattle.interest.specs.Views.{same_views, told_view}
 use Rattle.hub_core.specs.Choice.{queue_names}
 use Rattle.hub_core.specs.State.{Peer, State}
 
--- the peer is up at this incarnation, what was heard of it is what these counts are told as, and there is room for a frame
+-- the peer is up at this incarnation, what was heard of it is what these counts are told as, and
+-- there is room for a frame
 abbrev pub knows_at : Option Peer → ℕ → Counts → Bool
 knows_at None inc counts = false
-knows_at (Some peer) inc counts = peer.up && (nat_eq peer.seen inc && (same_views peer.heard.keys (told_view counts) && nat_lt (length peer.outbox) ROUTE_FRAMES))
+knows_at (Some peer) inc counts =
+    peer.up
+    && (nat_eq peer.seen inc
+    && (same_views peer.heard.keys (told_view counts) && nat_lt (length peer.outbox) ROUTE_FRAMES))
 
 -- one more turn and one more publication have a number
 abbrev pub can_number : State → Bool

@@ -6,7 +6,9 @@ use Rattle.interest.specs.Counts.{Counts}
 use Rattle.interest.specs.Heard.{Heard, nothing_heard}
 use Rattle.route_values.specs.Frames.{Frame}
 
--- what a hub knows of a peer (profile): the greatest incarnation seen, 0 before the first; of that incarnation the number of the last publication taken, and what was heard of its interest; whether it is up; and the frames that wait for it, the oldest first
+-- what a hub knows of a peer (profile): the greatest incarnation seen, 0 before the first; of that
+-- incarnation the number of the last publication taken, and what was heard of its interest; whether
+-- it is up; and the frames that wait for it, the oldest first
 pub record Peer : Type 0 where
   pub seen : ℕ
   pub mark : ℕ
@@ -14,7 +16,9 @@ pub record Peer : Type 0 where
   pub up : Bool
   pub outbox : List Frame
 
--- a hub (profile): the last turn issued; the last number of a publication, and of a change of interest; whether it drains; of each key the number of its open subscriptions, as the shards have told them; and each server of the cluster by its place, its own place idle
+-- a hub (profile): the last turn issued; the last number of a publication, and of a change of
+-- interest; whether it drains; of each key the number of its open subscriptions, as the shards have
+-- told them; and each server of the cluster by its place, its own place idle
 pub record State : Type 0 where
   pub issued : ℕ
   pub published : ℕ
@@ -28,7 +32,14 @@ abbrev pub unknown_peer : Peer
 unknown_peer = record { seen = 0; mark = 0; heard = nothing_heard; up = false; outbox = [] }
 
 abbrev pub new_hub : ServerIdentity → State
-new_hub server = record { issued = 0; published = 0; changed = 0; draining = false; counts = []; peers = replicate (length server.names) unknown_peer }
+new_hub server = record {
+  issued = 0;
+  published = 0;
+  changed = 0;
+  draining = false;
+  counts = [];
+  peers = replicate (length server.names) unknown_peer;
+}
 
 -- the peer at this place
 abbrev pub peer_at : ServerIdentity → State → ℕ → Option Peer
@@ -47,9 +58,13 @@ seen_of (Some peer) = peer.seen
 abbrev pub is_new_life : Peer → ℕ → Bool
 is_new_life peer inc = nat_lt peer.seen inc
 
--- a frame of this incarnation is looked at, or a session has it: a new life begins anew, and is not up; what waits stays
+-- a frame of this incarnation is looked at, or a session has it: a new life begins anew, and is not
+-- up; what waits stays
 abbrev pub peer_in_life : Peer → ℕ → Peer
-peer_in_life peer inc = if is_new_life peer inc then record { seen = inc; mark = 0; heard = nothing_heard; up = false; outbox = peer.outbox } else peer
+peer_in_life peer inc =
+    if is_new_life peer inc
+    then record { seen = inc; mark = 0; heard = nothing_heard; up = false; outbox = peer.outbox }
+    else peer
 
 -- the peer at this place, changed
 abbrev pub changed_in : (Peer → Peer) → ℕ → Option Peer → List Peer → List Peer
@@ -61,7 +76,8 @@ changed_at change q peers = changed_in change q (slice_get peers q) peers
 
 -- ---- what a hub keeps, from its start on
 
--- the server itself is never up; whoever is up was seen, at an incarnation from 1 on; and an outbox has a limit
+-- the server itself is never up; whoever is up was seen, at an incarnation from 1 on; and an outbox
+-- has a limit
 pub record IsSoundAt (server : ServerIdentity) (q : ℕ) (peer : Peer) : Type 0 where
   pub other : peer.up ≡ true → q ≢ server.me
   pub seen : peer.up ≡ true → 1 ≤ peer.seen

@@ -64,18 +64,24 @@ received_answer hub frame (Msg content queues) = Routed (routed_job hub frame co
 abbrev pub hub_answer : ServerIdentity → State → Event → Answer
 hub_answer server hub (Publish p finished) = Issued (own_job server hub p) (frames_of server hub p)
 hub_answer server hub (Receive frame finished) = received_answer hub frame frame.body
-hub_answer server hub (Collect shard deltas) = Collected (changes_of hub deltas) (collect_frames server hub deltas) (slow_peers hub deltas)
+hub_answer server hub (Collect shard deltas) =
+    Collected (changes_of hub deltas) (collect_frames server hub deltas) (slow_peers hub deltas)
 hub_answer server hub Drain = Drained (drain_frames server hub) (peers_too_slow hub)
 hub_answer server hub (Up q inc) = IsUp (snapshot_to server hub q inc)
 hub_answer server hub (Cut q) = WasCut
 hub_answer server hub (TakeFrom q count) = Taken (first_frames hub q count)
 
 -- ---- a step: done as computed, or refused by the first cause, which changes nothing
-pub record HubStep (server : ServerIdentity) (old : State) (event : Event) (outcome : Result Answer HubFault) (new : State) : Type 0 where
+pub record HubStep (server : ServerIdentity) (old : State) (event : Event)
+    (outcome : Result Answer HubFault) (new : State) : Type 0 where
   pub asked : IsAsked server old event
-  pub decided : IsDecided (hub_refusal server old event) (λ answer. (answer ≡ hub_answer server old event) × (new ≡ hub_after server old event)) (new ≡ old) outcome
+  pub decided : IsDecided (hub_refusal server old event)
+      (λ answer. (answer ≡ hub_answer server old event) × (new ≡ hub_after server old event))
+      (new ≡ old) outcome
 
 -- a hub is sound at its start, and each step keeps it so
 pub record StaysSound : Type 0 where
   pub start : (server : ServerIdentity) → IsSound server (new_hub server)
-  pub step : (server : ServerIdentity) (old : State) (event : Event) (outcome : Result Answer HubFault) (new : State) → IsListed server → IsSound server old → HubStep server old event outcome new → IsSound server new
+  pub step : (server : ServerIdentity) (old : State) (event : Event)
+      (outcome : Result Answer HubFault) (new : State) → IsListed server → IsSound server old
+      → HubStep server old event outcome new → IsSound server new

@@ -1,4 +1,7 @@
--- Collect and Drain. The deltas of a shard are counted, and what they change is told to the peers; a server that drains counts on, tells that it has no interest any more, and makes no further change (NATS documentation, "Cluster Protocol": `RS+` and `RS-`; numbers, order and cuts: profile).
+-- Collect and Drain. The deltas of a shard are counted, and what they change is told to the peers;
+-- a server that drains counts on, tells that it has no interest any more, and makes no further
+-- change (NATS documentation, "Cluster Protocol": `RS+` and `RS-`; numbers, order and cuts:
+-- profile).
 use Rattle.std.specs.Prelude.{ℕ, suc, ◌+◌, Bool, not, ◌&&◌, nat_lt, nat_le, List, [], ◌∷◌, ◌++◌, length, map, true, Option, Some, None, if◌then◌else◌}
 use Rattle.subj.specs.declared.limits.TheConstants.{MAX_COUNTER, ROUTE_FRAMES}
 use Rattle.subj.specs.Servers.{ServerIdentity, name_of, own_name}
@@ -25,7 +28,8 @@ count_of_changes hub deltas = length (changes_of hub deltas)
 abbrev pub collect_refusal : State → List Delta → Option HubFault
 collect_refusal hub deltas =
     if are_refused hub.counts deltas then Some BadInterest
-    else (if nat_lt MAX_COUNTER (hub.changed + count_of_changes hub deltas) then Some Spent else None)
+    else (if nat_lt MAX_COUNTER (hub.changed + count_of_changes hub deltas) then Some Spent
+    else None)
 
 -- ---- who is told
 
@@ -42,7 +46,8 @@ is_slow count peer = peer.up && not (has_room_for count peer)
 
 abbrev pub slow_from : ℕ → ℕ → List Peer → List ℕ
 slow_from count q [] = []
-slow_from count q (peer ∷ peers) = (if is_slow count peer then q ∷ [] else []) ++ slow_from count (suc q) peers
+slow_from count q (peer ∷ peers) =
+    (if is_slow count peer then q ∷ [] else []) ++ slow_from count (suc q) peers
 
 abbrev pub slow_peers : State → List Delta → List ℕ
 slow_peers hub deltas = slow_from (count_of_changes hub deltas) 0 hub.peers
@@ -62,17 +67,27 @@ abbrev pub frames_of_change : ServerIdentity → ℕ → ℕ → Change → ℕ 
 frames_of_change server count number change q [] = []
 frames_of_change server count number change q (peer ∷ peers) =
     (if is_told count peer
-    then record { from = own_name server; inc = server.inc; to = name_of server q; to_inc = peer.seen; number = number; body = body_of change } ∷ []
+    then record {
+      from = own_name server;
+      inc = server.inc;
+      to = name_of server q;
+      to_inc = peer.seen;
+      number = number;
+      body = body_of change;
+    } ∷ []
     else [])
     ++ frames_of_change server count number change (suc q) peers
 
 -- the changes behind the one of this number
 abbrev pub frames_behind : ServerIdentity → ℕ → ℕ → List Change → List Peer → List Frame
 frames_behind server count number [] peers = []
-frames_behind server count number (change ∷ changes) peers = frames_of_change server count (number + 1) change 0 peers ++ frames_behind server count (number + 1) changes peers
+frames_behind server count number (change ∷ changes) peers =
+    frames_of_change server count (number + 1) change 0 peers
+    ++ frames_behind server count (number + 1) changes peers
 
 abbrev pub collect_frames : ServerIdentity → State → List Delta → List Frame
-collect_frames server hub deltas = frames_behind server (count_of_changes hub deltas) hub.changed (changes_of hub deltas) hub.peers
+collect_frames server hub deltas =
+    frames_behind server (count_of_changes hub deltas) hub.changed (changes_of hub deltas) hub.peers
 
 -- ---- after: each peer is judged alone, by its outbox as it was
 
@@ -80,7 +95,9 @@ abbrev pub after_collect : ServerIdentity → State → List Delta → State
 after_collect server hub deltas = record hub {
   changed = hub.changed + count_of_changes hub deltas;
   counts = counts_told hub.counts deltas;
-  peers = with_frames server (collect_frames server hub deltas) 0 (map (without_slow (count_of_changes hub deltas)) hub.peers);
+  peers =
+      with_frames server (collect_frames server hub deltas) 0
+      (map (without_slow (count_of_changes hub deltas)) hub.peers);
 }
 
 -- ---- drain: one change, which clears; refusals: 59, 62
@@ -89,7 +106,9 @@ abbrev pub clearing : List Change
 clearing = Clear ∷ []
 
 abbrev pub drain_refusal : State → Option HubFault
-drain_refusal hub = if hub.draining then Some Draining else (if nat_le MAX_COUNTER hub.changed then Some Spent else None)
+drain_refusal hub =
+    if hub.draining then Some Draining
+    else (if nat_le MAX_COUNTER hub.changed then Some Spent else None)
 
 abbrev pub peers_too_slow : State → List ℕ
 peers_too_slow hub = slow_from 1 0 hub.peers

@@ -26,5 +26,8 @@ pub record PeerWants (server : ServerIdentity) (hub : State) (subject name : Lis
 
 -- a name is there just where it is wanted, by its own counts or by an eligible peer
 pub record NamesAreWanted : Type 0 where
-  pub rising : (server : ServerIdentity) (hub : State) (subject : List ℕ) → are_rising (queue_names server hub subject) ≡ true
-  pub wanted : (server : ServerIdentity) (hub : State) (subject name : List ℕ) → In name (queue_names server hub subject) ↔ (SomeWants subject name hub.counts ⊎ PeerWants server hub subject name)
+  pub rising : (server : ServerIdentity) (hub : State) (subject : List ℕ)
+      → are_rising (queue_names server hub subject) ≡ true
+  pub wanted : (server : ServerIdentity) (hub : State) (subject name : List ℕ)
+      → In name (queue_names server hub subject)
+      ↔ (SomeWants subject name hub.counts ⊎ PeerWants server hub subject name)

@@ -115,7 +115,8 @@ pub(crate) fn tell_peers(
     requires known { IsListed server.now }
     requires placed { length peers.old ≡ length server.now.names }
     requires room { HasRoomFor server.now frames.items (map (without_slow count) peers.old) }
-    ensures { peers.new ≡ with_frames server.now frames.items 0 (map (without_slow count) peers.old) }
+    ensures { peers.new
+        ≡ with_frames server.now frames.items 0 (map (without_slow count) peers.old) }
 {
     cut_slow(peers, count);
     put_all(server, peers, frames);
@@ -134,7 +135,8 @@ fn add_frames(
     requires seen { WereSeen peers.now }
     requires first { 1 ≤ number }
     requires last { number ≤ MAX_COUNTER }
-    ensures { OnOk result (frames.new.items ≡ frames.old.items ++ frames_of_change server.now count number change.now 0 peers.now) }
+    ensures { OnOk result (frames.new.items
+        ≡ frames.old.items ++ frames_of_change server.now count number change.now 0 peers.now) }
 {
     let alloc = *frames.allocator();
     for place in 0..peers.len() {
@@ -158,7 +160,9 @@ pub(crate) fn frames_of_changes(
     requires placed { length peers.now ≡ length server.now.names }
     requires seen { WereSeen peers.now }
     requires numbers { changed + length changes.now ≤ MAX_COUNTER }
-    ensures { IfOk result (λ frames. frames.items ≡ frames_behind server.now (length changes.now) changed changes.now peers.now) }
+    ensures { IfOk result (λ frames.
+        frames.items
+        ≡ frames_behind server.now (length changes.now) changed changes.now peers.now) }
 {
     let mut frames = Vec::new(alloc);
     let mut number = changed;

@@ -39,7 +39,8 @@ impl Hub {
     /// Refused with [`HubFault::Draining`] where the server drains already, and then with
     /// [`HubFault::Spent`] where the last number of a change was used.
     pub fn plan_drain(&self) -> Result<DrainPlan, Failure<HubFault>>
-        ensures { IsAnswered (drain_refusal self.now.state) (λ plan. IsDrainOf self.now plan.frames.items plan.cut.items) ⊤ result }
+        ensures { IsAnswered (drain_refusal self.now.state)
+            (λ plan. IsDrainOf self.now plan.frames.items plan.cut.items) ⊤ result }
     {
         if let Some(fault) = self.drain_fault() {
             return Err(Failure::Refused(fault));
@@ -52,7 +53,8 @@ impl Hub {
 
     /// The frames that a drain puts. It changes nothing. Refused as [`Hub::drain`] is.
     pub fn frames_of_drain(&self) -> Result<Vec<Numbered>, Failure<HubFault>>
-        ensures { IsAnswered (drain_refusal self.now.state) (λ frames. frames.items ≡ drain_frames self.now.server self.now.state) ⊤ result }
+        ensures { IsAnswered (drain_refusal self.now.state)
+            (λ frames. frames.items ≡ drain_frames self.now.server self.now.state) ⊤ result }
     {
         let plan = self.plan_drain()?;
         Ok(plan.frames)
@@ -64,7 +66,8 @@ impl Hub {
     pub fn commit_drain(&mut self, plan: DrainPlan) -> Vec<usize>
         requires taken { drain_refusal self.old.state ≡ None }
         requires planned { IsDrainOf self.old plan.frames.items plan.cut.items }
-        ensures { DoesStep self.old Drain (Drained (drain_frames self.old.server self.old.state) result.items) self.new }
+        ensures { DoesStep self.old Drain
+            (Drained (drain_frames self.old.server self.old.state) result.items) self.new }
     {
         let DrainPlan { frames, cut } = plan;
         self.changed += 1;
@@ -77,7 +80,11 @@ impl Hub {
     /// none from then on; a peer that has no room for it is cut. Interest is counted on. It is [`Hub::plan_drain`] and
     /// [`Hub::commit_drain`] together. Any `Err` leaves all as it was. (Profile.)
     pub fn drain(&mut self) -> Result<Vec<usize>, Failure<HubFault>>
-        ensures { IsAnswered (refusal self.old Drain) (λ cut. DoesStep self.old Drain (Drained (drain_frames self.old.server self.old.state) cut.items) self.new) (self.new ≡ self.old) result }
+        ensures { IsAnswered (refusal self.old Drain)
+            (λ cut.
+            DoesStep self.old Drain
+            (Drained (drain_frames self.old.server self.old.state) cut.items) self.new)
+            (self.new ≡ self.old) result }
     {
         let plan = self.plan_drain()?;
         Ok(self.commit_drain(plan))

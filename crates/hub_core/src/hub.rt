@@ -1,18 +1,18 @@
 //! The hub, with all that it is called for.
 
-ghost use Rattle.std.specs.Prelude.{◌≡◌, ◌<◌, nat_le, not, ◌&&◌, if◌then◌else◌, ⊤, Some, None, true, false, take, length, slice_get, IfOk, IfSome, OnOk, OnErr, ℕ, ◌+◌, ◌≤◌, position, [], nat_lt, unwrap_or};
+ghost use Rattle.std.specs.Prelude.{◌≡◌, ◌<◌, nat_le, not, if◌then◌else◌, ⊤, Some, None, true, false, take, length, slice_get, IfOk, IfSome, OnOk, OnErr, ℕ, ◌+◌, ◌≤◌, position, [], nat_lt, unwrap_or};
 ghost use Rattle.std.specs.Option.{option_or, option_copied};
 ghost use Rattle.subj.specs.Answers.{IsAnswered, IsDecided};
 ghost use Rattle.subj.specs.declared.limits.TheConstants.{MAX_COUNTER, MAX_SHARDS, MAX_QUEUE_NAMES};
 ghost use Rattle.subj.specs.Servers.{is_peer};
 ghost use Rattle.hub_core.specs.State.{seen_of as seen};
-ghost use Rattle.hub_core.specs.Events.{Receive, Up, Cut, TakeFrom, IsUp, WasCut, Taken, Publish, Issued, Collect, Collected};
+ghost use Rattle.hub_core.specs.Events.{Receive, Up, Cut, TakeFrom, IsUp, WasCut, Taken, Publish, Issued};
 ghost use Rattle.hub_core.specs.Steps.{IsMeeting};
 ghost use Rattle.hub_core.specs.Hubs.{hub_at_start, refusal, DoesStep};
 ghost use Rattle.hub_core.specs.declared.faults.HubFault.TheVariants.{Spent, TooManyQueues};
 ghost use Rattle.hub_core.specs.Publishing.{busy_fault, next_id as id_of_next, publish_refusal, frames_of};
 ghost use Rattle.hub_core.specs.Receiving.{receive_refusal, origin_fault as refused_of_origin, after_receive, has_message};
-ghost use Rattle.hub_core.specs.Calls.{job_of, IsTaken, answer_of, IsPlanned, after_frames, IsTellingOf, AreCounted, after_changes};
+ghost use Rattle.hub_core.specs.Calls.{job_of, IsTaken, answer_of, IsPlanned, after_frames};
 ghost use Rattle.hub_core.specs.Peers.{snapshot_to, told_interest};
 ghost use Rattle.std.specs.List.{count_by};
 ghost use Rattle.hub_core.specs.Chosen.{publication_by, IsPlanOf, turn_refusal};
@@ -20,11 +20,8 @@ ghost use Rattle.hub_core.specs.Telling.{collect_refusal, collect_frames};
 ghost use Rattle.claim_race.specs.Race.{busy_of, is_behind};
 ghost use Rattle.hub_core.specs.Choice.{queue_names as wanted_names};
 ghost use Rattle.hub_core.specs.Serving.{IsServed, ServesAlone};
-ghost use Rattle.interest.specs.Told.{counts_told};
-ghost use Rattle.interest.specs.Recounts.{IsPlanOf as IsPlanOfCounts, IsRecountOf};
 
-use crate::answers::{CollectResult, Received};
-use crate::collects::{CollectPlan, frames_of_changes, slow_peers, tell_peers};
+use crate::answers::Received;
 use crate::faults::HubFault;
 use crate::own_interest::OwnInterest;
 use crate::peers::{
@@ -33,7 +30,7 @@ use crate::peers::{
 use crate::publishing::{
     Outgoing, PublishPlan, frames_for, gather_names, is_alone, is_name_wanted, own_job, servers_for,
 };
-use interest::{Change, DeltaPlan, FoundNames, Recount};
+use interest::FoundNames;
 use route_values::{Body, Numbered, SnapshotKeys};
 use std::alloc::{AllocError, Global};
 use std::marker::Model;
@@ -68,9 +65,13 @@ impl Model for Hub {
 
     ghost use Rattle.hub_core.specs.Hubs.{hub_of_parts, IsKept};
 
-    ghost view = { λ hub. hub_of_parts hub.server hub.issued hub.published hub.changed hub.draining hub.counts hub.peers.items };
+    ghost view = { λ hub.
+        hub_of_parts hub.server hub.issued hub.published hub.changed hub.draining hub.counts
+        hub.peers.items };
 
-    ghost invariant = { λ hub. IsKept (hub_of_parts hub.server hub.issued hub.published hub.changed hub.draining hub.counts hub.peers.items) };
+    ghost invariant = { λ hub.
+        IsKept (hub_of_parts hub.server hub.issued hub.published hub.changed hub.draining hub.counts
+        hub.peers.items) };
 }
 
 impl Hub {
@@ -125,7 +126,8 @@ impl Hub {
     /// of the last change. Required: the place is of a peer. It changes nothing.
     pub fn plan_up(&self, place: usize, inc: Incarnation) -> Result<Numbered, AllocError>
         requires { is_peer self.now.server place ≡ true }
-        ensures { IfOk result (λ snapshot. snapshot ≡ snapshot_to self.now.server self.now.state place inc) }
+        ensures { IfOk result (λ snapshot.
+            snapshot ≡ snapshot_to self.now.server self.now.state place inc) }
     {
         let keys = self.keys_told()?;
         let body = Body::Snapshot(keys);
@@ -150,7 +152,8 @@ impl Hub {
     /// [`Hub::plan_up`] and [`Hub::commit_up`] together. Want of memory leaves all as it was.
     pub fn peer_up(&mut self, place: usize, inc: Incarnation) -> Result<(), AllocError>
         requires { IsMeeting self.old.server self.old.state place inc }
-        ensures ok { OnOk result (DoesStep self.old (Up place inc) (IsUp (snapshot_to self.old.server self.old.state place inc)) self.new) }
+        ensures ok { OnOk result (DoesStep self.old (Up place inc)
+            (IsUp (snapshot_to self.old.server self.old.state place inc)) self.new) }
         ensures err { OnErr result (self.new ≡ self.old) }
     {
         let snapshot = self.plan_up(place, inc)?;
@@ -177,7 +180,9 @@ impl Hub {
         place: usize,
         count: usize,
     ) -> Result<Vec<Numbered>, Failure<HubFault>>
-        ensures { IsAnswered (refusal self.old (TakeFrom place count)) (λ frames. DoesStep self.old (TakeFrom place count) (Taken frames.items) self.new) (self.new ≡ self.old) result }
+        ensures { IsAnswered (refusal self.old (TakeFrom place count))
+            (λ frames. DoesStep self.old (TakeFrom place count) (Taken frames.items) self.new)
+            (self.new ≡ self.old) result }
     {
         if !self.server.is_peer(place) {
             return Err(Failure::Refused(HubFault::NotInCluster));
@@ -190,7 +195,9 @@ impl Hub {
 
     /// Why no turn can be issued for a frame: a shard is a window behind, or the last turn was issued.
     fn turn_fault(&self, finished: &Finished) -> Option<HubFault>
-        ensures { result ≡ option_or (busy_fault self.now.server self.now.state finished.now) (if nat_le MAX_COUNTER self.now.state.issued then Some Spent else None) }
+        ensures { result
+            ≡ option_or (busy_fault self.now.server self.now.state finished.now)
+            (if nat_le MAX_COUNTER self.now.state.issued then Some Spent else None) }
     {
         if let Some(busy) = busy(self.issued, self.server.shards(), finished) {
             return Some(HubFault::Busy(busy));
@@ -201,7 +208,9 @@ impl Hub {
     /// Why a frame of the peer at the place is refused, apart from whom it is for.
     fn origin_fault(&self, place: usize, frame: &Numbered, finished: &Finished) -> Option<HubFault>
         requires { place < length self.now.state.peers }
-        ensures { result ≡ refused_of_origin self.now.server self.now.state finished.now frame.now (slice_get self.now.state.peers place) }
+        ensures { result
+            ≡ refused_of_origin self.now.server self.now.state finished.now frame.now
+            (slice_get self.now.state.peers place) }
     {
         let peer = &self.peers[place];
         let inc = frame.inc().get();
@@ -242,7 +251,8 @@ impl Hub {
         frame: &Numbered,
         finished: &Finished,
     ) -> Result<Option<Job>, Failure<HubFault>>
-        ensures { IsAnswered (refusal self.now (Receive frame.now finished.now)) (λ job. job ≡ job_of self.now.state frame.now frame.now.body) ⊤ result }
+        ensures { IsAnswered (refusal self.now (Receive frame.now finished.now))
+            (λ job. job ≡ job_of self.now.state frame.now frame.now.body) ⊤ result }
     {
         if let Some(fault) = self.receive_fault(frame, finished) {
             return Err(Failure::Refused(fault));
@@ -272,7 +282,8 @@ impl Hub {
     pub fn commit_message(&mut self, frame: &Numbered)
         requires message { has_message frame.now.body ≡ true }
         requires taken { IsTaken self.old.server self.old.state frame.now }
-        ensures { self.new ≡ record self.old { state = after_receive self.old.server self.old.state frame.now } }
+        ensures { self.new
+            ≡ record self.old { state = after_receive self.old.server self.old.state frame.now } }
     {
         let place = peer_place(&self.server, frame.from()).unwrap();
         let alloc = self.alloc;
@@ -285,7 +296,11 @@ impl Hub {
     fn apply_update(&mut self, frame: &Numbered) -> Result<(), Failure<HubFault>>
         requires news { has_message frame.now.body ≡ false }
         requires taken { IsTaken self.old.server self.old.state frame.now }
-        ensures { IsAnswered None (λ _. self.new ≡ record self.old { state = after_receive self.old.server self.old.state frame.now }) (self.new ≡ self.old) result }
+        ensures { IsAnswered None
+            (λ _.
+            self.new
+            ≡ record self.old { state = after_receive self.old.server self.old.state frame.now })
+            (self.new ≡ self.old) result }
     {
         let place = peer_place(&self.server, frame.from()).unwrap();
         let alloc = self.alloc;
@@ -301,7 +316,10 @@ impl Hub {
         frame: &Numbered,
         finished: &Finished,
     ) -> Result<Received, Failure<HubFault>>
-        ensures { IsAnswered (refusal self.old (Receive frame.now finished.now)) (λ received. DoesStep self.old (Receive frame.now finished.now) (answer_of received) self.new) (self.new ≡ self.old) result }
+        ensures { IsAnswered (refusal self.old (Receive frame.now finished.now))
+            (λ received.
+            DoesStep self.old (Receive frame.now finished.now) (answer_of received) self.new)
+            (self.new ≡ self.old) result }
     {
         match self.plan_receive(frame, finished)? {
             Some(job) => {
@@ -320,7 +338,8 @@ impl Hub {
     /// memory; where there is some, the queue names of a subject that is published again are kept in mind.
     pub fn commit_publish(&mut self, frames: Vec<Numbered>)
         requires { IsPlanned self.old.server self.old.state frames.items }
-        ensures { self.new ≡ record self.old { state = after_frames self.old.server self.old.state frames.items } }
+        ensures { self.new
+            ≡ record self.old { state = after_frames self.old.server self.old.state frames.items } }
     {
         self.issued = self.issued.next().unwrap();
         self.published += 1;
@@ -368,7 +387,10 @@ impl Hub {
 impl Hub {
     /// Why [`Hub::plan_publish`] refuses. Takes no memory.
     pub fn publish_fault(&self, publication: &Pub, finished: &Finished) -> Option<HubFault>
-        ensures { (conn word : ℕ) → result ≡ publish_refusal self.now.server self.now.state (publication_by conn publication.now word) finished.now }
+        ensures { (conn word : ℕ)
+            → result
+            ≡ publish_refusal self.now.server self.now.state
+            (publication_by conn publication.now word) finished.now }
     {
         if let Err(fault) = self.next_turn(finished) {
             return Some(fault);
@@ -389,7 +411,9 @@ impl Hub {
 
     /// The frames that a collect of these deltas puts. It changes nothing. Refused as [`Hub::collect`] is.
     pub fn frames_of_collect(&self, deltas: &[Delta]) -> Result<Vec<Numbered>, Failure<HubFault>>
-        ensures { IsAnswered (collect_refusal self.now.state deltas.now) (λ frames. frames.items ≡ collect_frames self.now.server self.now.state deltas.now) ⊤ result }
+        ensures { IsAnswered (collect_refusal self.now.state deltas.now)
+            (λ frames. frames.items ≡ collect_frames self.now.server self.now.state deltas.now) ⊤
+            result }
     {
         let plan = self.plan_collect(deltas)?;
         Ok(plan.frames)
@@ -430,7 +454,9 @@ impl Hub {
     /// The turn of the next job. Refused: 60 where a shard is a window behind, 62 where the last number of
     /// a publication or the last turn was used. Takes no memory.
     pub(crate) fn next_turn(&self, finished: &Finished) -> Result<Turn, HubFault>
-        ensures { IsDecided (turn_refusal self.now.server self.now.state finished.now) (λ turn. (turn ≡ self.now.state.issued + 1) × (self.now.state.published < MAX_COUNTER)) ⊤ result }
+        ensures { IsDecided (turn_refusal self.now.server self.now.state finished.now)
+            (λ turn. (turn ≡ self.now.state.issued + 1) × (self.now.state.published < MAX_COUNTER))
+            ⊤ result }
     {
         if let Some(busy) = busy(self.issued, self.server.shards(), finished) {
             return Err(HubFault::Busy(busy));
@@ -458,9 +484,16 @@ impl Hub {
     ) -> Result<PublishPlan, Failure<HubFault>>
         requires turn { turn ≡ self.now.state.issued + 1 }
         requires number { self.now.state.published < MAX_COUNTER }
-        requires names { unwrap_or (option_copied names) [] ≡ wanted_names self.now.server self.now.state publication.now.message.subject }
-        requires servers { IsServed self.now.server self.now.state (publication_by conn publication.now word) (unwrap_or (option_copied names) []) servers.now }
-        ensures { IsAnswered None (λ plan. IsPlanOf self.now.server self.now.state (publication_by conn publication.now word) plan.job plan.frames.items) ⊤ result }
+        requires names { unwrap_or (option_copied names) []
+            ≡ wanted_names self.now.server self.now.state publication.now.message.subject }
+        requires servers { IsServed self.now.server self.now.state
+            (publication_by conn publication.now word) (unwrap_or (option_copied names) [])
+            servers.now }
+        ensures { IsAnswered None
+            (λ plan.
+            IsPlanOf self.now.server self.now.state (publication_by conn publication.now word)
+            plan.job plan.frames.items)
+            ⊤ result }
     {
         let _word = word;
         let out = Outgoing {
@@ -487,8 +520,13 @@ impl Hub {
     ) -> Result<PublishPlan, Failure<HubFault>>
         requires turn { turn ≡ self.now.state.issued + 1 }
         requires number { self.now.state.published < MAX_COUNTER }
-        requires names { names.now ≡ wanted_names self.now.server self.now.state publication.now.message.subject }
-        ensures { IsAnswered None (λ plan. IsPlanOf self.now.server self.now.state (publication_by conn publication.now word) plan.job plan.frames.items) ⊤ result }
+        requires names { names.now
+            ≡ wanted_names self.now.server self.now.state publication.now.message.subject }
+        ensures { IsAnswered None
+            (λ plan.
+            IsPlanOf self.now.server self.now.state (publication_by conn publication.now word)
+            plan.job plan.frames.items)
+            ⊤ result }
     {
         let subject = publication.message.subject();
         let servers = servers_for(
@@ -515,7 +553,15 @@ impl Hub {
     ) -> Result<PublishPlan, Failure<HubFault>>
         requires turn { turn ≡ self.now.state.issued + 1 }
         requires number { self.now.state.published < MAX_COUNTER }
-        ensures { IsAnswered (if nat_lt MAX_QUEUE_NAMES (length (wanted_names self.now.server self.now.state publication.now.message.subject)) then Some TooManyQueues else None) (λ plan. IsPlanOf self.now.server self.now.state (publication_by conn publication.now word) plan.job plan.frames.items) ⊤ result }
+        ensures { IsAnswered
+            (if nat_lt MAX_QUEUE_NAMES
+            (length (wanted_names self.now.server self.now.state publication.now.message.subject))
+            then Some TooManyQueues
+            else None)
+            (λ plan.
+            IsPlanOf self.now.server self.now.state (publication_by conn publication.now word)
+            plan.job plan.frames.items)
+            ⊤ result }
     {
         let subject = publication.message.subject();
         let mut names = FoundNames::new();
@@ -542,15 +588,21 @@ impl Hub {
     ) -> Result<PublishPlan, Failure<HubFault>>
         requires turn { turn ≡ self.now.state.issued + 1 }
         requires number { self.now.state.published < MAX_COUNTER }
-        requires names { wanted_names self.now.server self.now.state publication.now.message.subject ≡ [] }
-        ensures { IsAnswered None (λ plan. IsPlanOf self.now.server self.now.state (publication_by conn publication.now word) plan.job plan.frames.items) ⊤ result }
+        requires names { wanted_names self.now.server self.now.state publication.now.message.subject
+            ≡ [] }
+        ensures { IsAnswered None
+            (λ plan.
+            IsPlanOf self.now.server self.now.state (publication_by conn publication.now word)
+            plan.job plan.frames.items)
+            ⊤ result }
     {
         self.plan_by(turn, conn, publication, word, None, &[])
     }
 
     /// The queue names that want the subject, where they are in mind and no peer is eligible.
     fn names_alone(&self, subject: &Subject) -> Option<&QueueNames>
-        ensures { IfSome result (λ names. ServesAlone self.now.server self.now.state subject.now names.now) }
+        ensures { IfSome result (λ names.
+            ServesAlone self.now.server self.now.state subject.now names.now) }
     {
         if !self.counts.is_queued() || !is_alone(&self.server, &self.peers) {
             return None;
@@ -570,8 +622,14 @@ impl Hub {
     ) -> Result<PublishPlan, Failure<HubFault>>
         requires turn { turn ≡ self.now.state.issued + 1 }
         requires number { self.now.state.published < MAX_COUNTER }
-        requires names { ServesAlone self.now.server self.now.state publication.now.message.subject names.now }
-        ensures { (word : ℕ) → IsAnswered None (λ plan. IsPlanOf self.now.server self.now.state (publication_by conn publication.now word) plan.job plan.frames.items) ⊤ result }
+        requires names { ServesAlone self.now.server self.now.state publication.now.message.subject
+            names.now }
+        ensures { (word : ℕ)
+            → IsAnswered None
+            (λ plan.
+            IsPlanOf self.now.server self.now.state (publication_by conn publication.now word)
+            plan.job plan.frames.items)
+            ⊤ result }
     {
         let queues = names.try_clone()?;
         let message = publication.message.try_clone()?;
@@ -608,7 +666,15 @@ impl Hub {
     ) -> Result<PublishPlan, Failure<HubFault>>
         requires turn { turn ≡ self.now.state.issued + 1 }
         requires number { self.now.state.published < MAX_COUNTER }
-        ensures { IsAnswered (if nat_lt MAX_QUEUE_NAMES (length (wanted_names self.now.server self.now.state publication.now.message.subject)) then Some TooManyQueues else None) (λ plan. IsPlanOf self.now.server self.now.state (publication_by conn publication.now word) plan.job plan.frames.items) ⊤ result }
+        ensures { IsAnswered
+            (if nat_lt MAX_QUEUE_NAMES
+            (length (wanted_names self.now.server self.now.state publication.now.message.subject))
+            then Some TooManyQueues
+            else None)
+            (λ plan.
+            IsPlanOf self.now.server self.now.state (publication_by conn publication.now word)
+            plan.job plan.frames.items)
+            ⊤ result }
     {
         let subject = publication.message.subject();
         if let Some(names) = self.names_alone(subject) {
@@ -636,7 +702,13 @@ impl Hub {
         word: u64,
         finished: &Finished,
     ) -> Result<PublishPlan, Failure<HubFault>>
-        ensures { IsAnswered (publish_refusal self.now.server self.now.state (publication_by conn publication.now word) finished.now) (λ plan. IsPlanOf self.now.server self.now.state (publication_by conn publication.now word) plan.job plan.frames.items) ⊤ result }
+        ensures { IsAnswered
+            (publish_refusal self.now.server self.now.state
+            (publication_by conn publication.now word) finished.now)
+            (λ plan.
+            IsPlanOf self.now.server self.now.state (publication_by conn publication.now word)
+            plan.job plan.frames.items)
+            ⊤ result }
     {
         let turn = match self.next_turn(finished) {
             Ok(turn) => turn,
@@ -655,132 +727,15 @@ impl Hub {
         word: u64,
         finished: &Finished,
     ) -> Result<Job, Failure<HubFault>>
-        ensures { let p = publication_by conn publication.now word in IsAnswered (publish_refusal self.old.server self.old.state p finished.now) (λ job. DoesStep self.old (Publish p finished.now) (Issued job (frames_of self.old.server self.old.state p)) self.new) (self.new ≡ self.old) result }
+        ensures { let p = publication_by conn publication.now word in
+            IsAnswered (publish_refusal self.old.server self.old.state p finished.now)
+            (λ job.
+            DoesStep self.old (Publish p finished.now)
+            (Issued job (frames_of self.old.server self.old.state p)) self.new)
+            (self.new ≡ self.old) result }
     {
         let PublishPlan { job, frames } = self.plan_publish(conn, publication, word, finished)?;
         self.commit_publish(frames);
         Ok(job)
-    }
-}
-
-impl Hub {
-    /// Why deltas are refused that can be counted and make so many changes of the counts: their numbers would go
-    /// beyond the last one. A server that drains tells of none.
-    fn count_fault(&self, count: u64) -> Option<HubFault>
-        ensures { result ≡ (if (not self.now.state.draining && nat_lt MAX_COUNTER (self.now.state.changed + count)) then Some Spent else None) }
-    {
-        (!self.draining && count > MAX_COUNTER - self.changed).then_some(HubFault::Spent)
-    }
-
-    /// Of the changes of the counts those that are told: all, and none of a server that drains.
-    fn told_of(&self, changes: Vec<Change>) -> Vec<Change>
-        ensures { result.items ≡ (if self.now.state.draining then [] else changes.items) }
-    {
-        if self.draining {
-            return Vec::new(self.alloc);
-        }
-        changes
-    }
-
-    /// Why deltas are refused. Keeps no memory. The time grows with the deltas; where there is no memory for a
-    /// table of their keys, with their square.
-    pub fn collect_fault(&self, deltas: &[Delta]) -> Option<HubFault>
-        ensures { result ≡ collect_refusal self.now.state deltas.now }
-    {
-        match self.counts.counts().changes_of(deltas) {
-            None => Some(HubFault::BadInterest),
-            Some(count) => self.count_fault(count),
-        }
-    }
-
-    /// What deltas do that are not refused, where this is what they make of the counts.
-    fn telling_of(&self, deltas: &[Delta], plan: DeltaPlan) -> Result<CollectPlan, AllocError>
-        requires taken { collect_refusal self.now.state deltas.now ≡ None }
-        requires planned { IsPlanOfCounts self.now.state.counts deltas.now (Some plan) }
-        ensures { IfOk result (λ plan. IsTellingOf self.now deltas.now plan.recount plan.changes.items plan.frames.items plan.cut.items) }
-    {
-        let alloc = self.alloc;
-        let DeltaPlan { recount, changes } = plan;
-        let changes = self.told_of(changes);
-        let frames = frames_of_changes(alloc, &self.server, &self.peers, self.changed, &changes)?;
-        let cut = slow_peers(alloc, &self.peers, changes.len())?;
-        Ok(CollectPlan {
-            recount,
-            changes,
-            frames,
-            cut,
-        })
-    }
-
-    /// What a collect of these deltas does. It changes nothing, and takes memory only for what changes and
-    /// for what is told. The time grows with the deltas, and hardly with the keys that are counted.
-    ///
-    /// Refused, all of them together, with [`HubFault::BadInterest`] where one could not be counted in its
-    /// turn, as [`Local::apply`](interest::Local::apply) tells, and then with [`HubFault::Spent`] where
-    /// their changes would go beyond the last number.
-    pub fn plan_collect(&self, deltas: &[Delta]) -> Result<CollectPlan, Failure<HubFault>>
-        ensures { IsAnswered (collect_refusal self.now.state deltas.now) (λ plan. IsTellingOf self.now deltas.now plan.recount plan.changes.items plan.frames.items plan.cut.items) ⊤ result }
-    {
-        let plan = match self.counts.counts().plan(deltas) {
-            Ok(Some(plan)) => plan,
-            Ok(None) => return Err(Failure::Refused(HubFault::BadInterest)),
-            Err(_) => match self.collect_fault(deltas) {
-                Some(fault) => return Err(Failure::Refused(fault)),
-                None => return Err(Failure::OutOfMemory),
-            },
-        };
-        if let Some(fault) = self.count_fault(plan.changes.len() as u64) {
-            return Err(Failure::Refused(fault));
-        }
-        Ok(self.telling_of(deltas, plan)?)
-    }
-
-    /// Counts deltas, of which this is the recount: so many changes take the next numbers, peers without
-    /// room for all of them are cut, and the frames wait for the others.
-    fn tell(&mut self, deltas: &[Delta], recount: Recount, count: usize, frames: Vec<Numbered>)
-        requires recount { IsRecountOf self.old.state.counts deltas.now recount }
-        requires counted { AreCounted self.old.server self.old.state deltas.now count frames.items }
-        ensures { self.new ≡ record self.old { state = after_changes self.old.server self.old.state (counts_told self.old.state.counts deltas.now) count frames.items } }
-    {
-        self.counts.commit(deltas, recount);
-        self.changed += count as u64;
-        tell_peers(&self.server, &mut self.peers, count, frames);
-    }
-
-    /// Counts deltas, and tells of them: their changes take the next numbers, peers without room for all of
-    /// them are cut, and the frames wait for the others. Required: the deltas are not refused, and the plan
-    /// is the one that [`Hub::plan_collect`] gives for them. Takes no memory.
-    pub fn commit_collect(&mut self, deltas: &[Delta], plan: CollectPlan) -> CollectResult
-        requires taken { collect_refusal self.old.state deltas.now ≡ None }
-        requires planned { IsTellingOf self.old deltas.now plan.recount plan.changes.items plan.frames.items plan.cut.items }
-        ensures { (shard : ℕ) → DoesStep self.old (Collect shard deltas.now) (Collected result.changes.items (collect_frames self.old.server self.old.state deltas.now) result.cut.items) self.new }
-    {
-        let CollectPlan {
-            recount,
-            changes,
-            frames,
-            cut,
-        } = plan;
-        self.tell(deltas, recount, changes.len(), frames);
-        CollectResult { changes, cut }
-    }
-
-    /// Counts the deltas of a shard, in their order, and tells each peer that is up of all that they
-    /// change, unless the server drains; a peer that has no room for all of it is told nothing, and is cut. It is
-    /// [`Hub::plan_collect`] and [`Hub::commit_collect`] together; no deltas change nothing, and cost hardly
-    /// anything. Any `Err` leaves all as it was. (NATS documentation, "Cluster Protocol": `RS+` and `RS-`;
-    /// numbers, order and cuts: profile.)
-    ///
-    /// Refused, all of them together, with [`HubFault::BadInterest`] where one could not be counted in its
-    /// turn, as [`Local::apply`](interest::Local::apply) tells, and then with [`HubFault::Spent`] where
-    /// their changes would go beyond the last number.
-    pub fn collect(&mut self, deltas: &[Delta]) -> Result<CollectResult, Failure<HubFault>>
-        ensures { (shard : ℕ) → IsAnswered (refusal self.old (Collect shard deltas.now)) (λ told. DoesStep self.old (Collect shard deltas.now) (Collected told.changes.items (collect_frames self.old.server self.old.state deltas.now) told.cut.items) self.new) (self.new ≡ self.old) result }
-    {
-        if deltas.is_empty() {
-            return Ok(CollectResult::nothing(self.alloc));
-        }
-        let plan = self.plan_collect(deltas)?;
-        Ok(self.commit_collect(deltas, plan))
     }
 }

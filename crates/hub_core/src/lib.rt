@@ -9,12 +9,13 @@
 //! ```
 //!
 //! In reading order: `hub` has the state, and says why a call is refused (`faults`); `publishing` is what a publish owes, with the choice of who
-//! serves each queue name, `collects` what peers are told of interest, and `drains` how a server tells that it has none any more. `peers` keeps what
+//! serves each queue name, `collecting` counts what shards tell, by `collects`, which is what peers are told of it, and `drains` how a server tells that it has none any more. `peers` keeps what
 //! is known of each: what a frame of a peer does, the snapshot for one that comes up, and the frames that wait. `own_interest` is the server's own,
 //! with the queue names in mind that want a hot subject. `answers` is what the calls give. `laws` and `examples` are what holds of all this.
 #![tactic(auto)]
 
 mod answers;
+mod collecting;
 mod collects;
 mod drains;
 mod examples;

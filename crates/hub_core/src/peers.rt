@@ -51,9 +51,16 @@ impl Model for Peer {
 
     ghost Value = { Peer };
 
-    ghost view = { λ peer. record { seen = peer.seen; mark = peer.mark; heard = peer.heard; up = peer.up; outbox = peer.outbox.items } };
+    ghost view = { λ peer. record {
+      seen = peer.seen;
+      mark = peer.mark;
+      heard = peer.heard;
+      up = peer.up;
+      outbox = peer.outbox.items;
+    } };
 
-    ghost invariant = { λ peer. (peer.seen ≤ MAX_INCARNATION) × (ROUTE_FRAMES ≤ deque_capacity peer.outbox) };
+    ghost invariant = { λ peer.
+        (peer.seen ≤ MAX_INCARNATION) × (ROUTE_FRAMES ≤ deque_capacity peer.outbox) };
 }
 
 /// Moves the first frames of one list to the end of another, which has room for them.
@@ -153,7 +160,8 @@ impl Peer {
     /// all as it was.
     pub fn take(&mut self, alloc: Global, count: usize) -> Result<Vec<Numbered>, AllocError>
         ensures frames { IfOk result (λ frames. frames.items ≡ take count self.old.outbox) }
-        ensures ok { IfOk result (λ _. self.new ≡ record self.old { outbox = drop count self.old.outbox }) }
+        ensures ok { IfOk result (λ _.
+            self.new ≡ record self.old { outbox = drop count self.old.outbox }) }
         ensures err { OnErr result (self.new ≡ self.old) }
     {
         let count = count.min(self.outbox.len());
@@ -186,7 +194,9 @@ fn place_in(server: &ServerIdentity, name: NodeId) -> usize
 fn put(server: &ServerIdentity, peers: &mut [Peer], frame: Numbered)
     requires listed { place_of server.now frame.to < length server.now.names }
     requires placed { length peers.old ≡ length server.now.names }
-    requires room { (peer : KnownPeer) → slice_get peers.old (place_of server.now frame.to) ≡ Some peer → length peer.outbox < ROUTE_FRAMES }
+    requires room { (peer : KnownPeer)
+        → slice_get peers.old (place_of server.now frame.to) ≡ Some peer
+        → length peer.outbox < ROUTE_FRAMES }
     ensures { peers.new ≡ changed_at (with_frame frame) (place_of server.now frame.to) peers.old }
 {
     let place = place_in(server, frame.to());
@@ -212,7 +222,8 @@ pub(crate) fn put_all(server: &ServerIdentity, peers: &mut [Peer], frames: Vec<N
 
 /// A counted key with what it weighs to a peer.
 fn key_with_weight(alloc: Global, key: &Key, count: u64) -> Result<WeightedKey, AllocError>
-    requires { weighted_key key.now (told_weight key.now count) ≡ Some (key.now, told_weight key.now count) }
+    requires { weighted_key key.now (told_weight key.now count)
+        ≡ Some (key.now, told_weight key.now count) }
     ensures { IfOk result (λ weighted. weighted ≡ (key.now, told_weight key.now count)) }
 {
     let weight = if key.queue.is_none() { 1 } else { count };
@@ -230,7 +241,14 @@ pub(crate) fn frame_to(
 ) -> Numbered
     requires place { place < length server.now.names }
     requires number { is_number number body ≡ true }
-    ensures { result ≡ record { from = own_name server.now; inc = server.now.inc; to = name_of server.now place; to_inc = inc; number = number; body = body } }
+    ensures { result ≡ record {
+      from = own_name server.now;
+      inc = server.now.inc;
+      to = name_of server.now place;
+      to_inc = inc;
+      number = number;
+      body = body;
+    } }
 {
     let to = server.names()[place];
     let frame = Numbered::new(server.name(), server.inc(), to, inc, number, body);
@@ -276,7 +294,9 @@ pub(crate) fn address_fault(server: &ServerIdentity, frame: &Numbered) -> Option
 
 /// The place of the peer of this name.
 pub(crate) fn peer_place(server: &ServerIdentity, name: NodeId) -> Option<usize>
-    ensures { result ≡ (if is_peer server.now (place_of server.now name) then Some (place_of server.now name) else None) }
+    ensures { result
+        ≡ (if is_peer server.now (place_of server.now name) then Some (place_of server.now name)
+        else None) }
 {
     let place = server.place(name)?;
     server.is_peer(place).then_some(place)
@@ -297,7 +317,8 @@ fn interest_fault(heard: &View, number: u64, body: &Body) -> Option<HubFault>
 /// Applies a change that can be taken.
 fn follow(heard: &mut View, number: u64, change: Change) -> Result<(), Failure<HubFault>>
     requires { news_fault heard.old (Changed number change) ≡ None }
-    ensures { IsAnswered None (λ _. heard.new ≡ heard_after heard.old (Changed number change)) (heard.new ≡ heard.old) result }
+    ensures { IsAnswered None (λ _. heard.new ≡ heard_after heard.old (Changed number change))
+        (heard.new ≡ heard.old) result }
 {
     match heard.apply_update(number, change) {
         Ok(()) => Ok(()),
@@ -313,7 +334,8 @@ fn apply_update(
     number: u64,
     body: &Body,
 ) -> Result<(), Failure<HubFault>>
-    ensures { IsAnswered (unheard heard.old number body.now) (λ _. heard.new ≡ heard_by heard.old number body.now) (heard.new ≡ heard.old) result }
+    ensures { IsAnswered (unheard heard.old number body.now)
+        (λ _. heard.new ≡ heard_by heard.old number body.now) (heard.new ≡ heard.old) result }
 {
     if let Some(fault) = interest_fault(heard, number, body) {
         return Err(Failure::Refused(fault));
@@ -349,7 +371,8 @@ impl Peer {
 
     /// Why the news of a frame are not heard, or None where they are, or where it is a message.
     pub fn interest_fault(&self, alloc: Global, frame: &Numbered) -> Option<HubFault>
-        ensures { result ≡ unheard (peer_in_life self.now frame.now.inc).heard frame.now.number frame.now.body }
+        ensures { result
+            ≡ unheard (peer_in_life self.now frame.now.inc).heard frame.now.number frame.now.body }
     {
         if self.seen < frame.inc().get() {
             return interest_fault(&View::new(alloc), frame.number(), frame.body());
@@ -361,7 +384,12 @@ impl Peer {
     /// leaves all as it was.
     pub fn apply_update(&mut self, alloc: Global, frame: &Numbered) -> Result<(), Failure<HubFault>>
         requires { says_message frame.now.body ≡ false }
-        ensures { IsAnswered (unheard (peer_in_life self.old frame.now.inc).heard frame.now.number frame.now.body) (λ _. self.new ≡ told_by frame.now.body frame.now.number (peer_in_life self.old frame.now.inc)) (self.new ≡ self.old) result }
+        ensures { IsAnswered
+            (unheard (peer_in_life self.old frame.now.inc).heard frame.now.number frame.now.body)
+            (λ _.
+            self.new
+            ≡ told_by frame.now.body frame.now.number (peer_in_life self.old frame.now.inc))
+            (self.new ≡ self.old) result }
     {
         if self.seen < frame.inc().get() {
             let mut heard = View::new(alloc);
@@ -376,7 +404,8 @@ impl Peer {
     /// Takes the message of a frame.
     pub fn take_message(&mut self, alloc: Global, frame: &Numbered)
         requires { says_message frame.now.body ≡ true }
-        ensures { self.new ≡ told_by frame.now.body frame.now.number (peer_in_life self.old frame.now.inc) }
+        ensures { self.new
+            ≡ told_by frame.now.body frame.now.number (peer_in_life self.old frame.now.inc) }
     {
         self.know(alloc, frame.inc());
         self.mark = frame.number();

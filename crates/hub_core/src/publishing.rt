@@ -63,7 +63,15 @@ fn frame_with(
     requires place { place < length out.now.server.now.names }
     requires first { 1 ≤ out.now.number }
     requires last { out.now.number ≤ MAX_COUNTER }
-    ensures { IfOk result (λ frame. frame ≡ record { from = own_name out.now.server.now; inc = out.now.server.now.inc; to = name_of out.now.server.now place; to_inc = inc; number = out.now.number; body = Msg out.now.message.now queues }) }
+    ensures { IfOk result (λ frame.
+        frame ≡ record {
+          from = own_name out.now.server.now;
+          inc = out.now.server.now.inc;
+          to = name_of out.now.server.now place;
+          to_inc = inc;
+          number = out.now.number;
+          body = Msg out.now.message.now queues;
+        }) }
 {
     let message = out.message.try_clone()?;
     let body = Body::Msg { message, queues };
@@ -86,7 +94,12 @@ fn put_frame(
     requires last { out.now.number ≤ MAX_COUNTER }
     requires seen { 1 ≤ peer.now.seen }
     requires eligible { eligible out.now.server.now place peer.now ≡ true }
-    ensures { OnOk result (frames.new.items ≡ frames.old.items ++ frame_at out.now.server.now out.now.number out.now.message.now (chosen_for (name_of out.now.server.now place) (unwrap_or (option_copied out.now.names) []) out.now.servers.now) place peer.now) }
+    ensures { OnOk result (frames.new.items
+        ≡ frames.old.items
+        ++ frame_at out.now.server.now out.now.number out.now.message.now
+        (chosen_for (name_of out.now.server.now place) (unwrap_or (option_copied out.now.names) [])
+        out.now.servers.now)
+        place peer.now) }
 {
     let to = out.server.names()[place];
     let queues = names_for(out.alloc, out.names, out.servers, to)?;
@@ -112,7 +125,12 @@ fn add_frame(
     requires first { 1 ≤ out.now.number }
     requires last { out.now.number ≤ MAX_COUNTER }
     requires seen { peer.now.up ≡ true → 1 ≤ peer.now.seen }
-    ensures { OnOk result (frames.new.items ≡ frames.old.items ++ frame_at out.now.server.now out.now.number out.now.message.now (chosen_for (name_of out.now.server.now place) (unwrap_or (option_copied out.now.names) []) out.now.servers.now) place peer.now) }
+    ensures { OnOk result (frames.new.items
+        ≡ frames.old.items
+        ++ frame_at out.now.server.now out.now.number out.now.message.now
+        (chosen_for (name_of out.now.server.now place) (unwrap_or (option_copied out.now.names) [])
+        out.now.servers.now)
+        place peer.now) }
 {
     if !is_eligible(out.server, place, peer) {
         return Ok(());
@@ -127,8 +145,16 @@ pub(crate) fn frames_for(out: &Outgoing<'_>, peers: &[Peer]) -> Result<Vec<Numbe
     requires placed { length peers.now ≡ length out.now.server.now.names }
     requires first { 1 ≤ out.now.number }
     requires last { out.now.number ≤ MAX_COUNTER }
-    requires seen { (q : ℕ) (peer : KnownPeer) → slice_get peers.now q ≡ Some peer → peer.up ≡ true → 1 ≤ peer.seen }
-    ensures { IfOk result (λ frames. frames.items ≡ sent_from out.now.server.now out.now.number out.now.message.now (λ server_name. chosen_for server_name (unwrap_or (option_copied out.now.names) []) out.now.servers.now) 0 peers.now) }
+    requires seen { (q : ℕ) (peer : KnownPeer)
+        → slice_get peers.now q ≡ Some peer
+        → peer.up ≡ true
+        → 1 ≤ peer.seen }
+    ensures { IfOk result (λ frames.
+        frames.items
+        ≡ sent_from out.now.server.now out.now.number out.now.message.now
+        (λ server_name.
+        chosen_for server_name (unwrap_or (option_copied out.now.names) []) out.now.servers.now)
+        0 peers.now) }
 {
     let mut frames = Vec::new(out.alloc);
     for (place, peer) in peers.iter().enumerate() {
@@ -146,7 +172,21 @@ pub(crate) fn own_job(
     echo: bool,
 ) -> Result<Job, AllocError>
     requires split { IsSplit (unwrap_or (option_copied out.now.names) []) out.now.servers.now }
-    ensures { IfOk result (λ job. job ≡ record { turn = turn; id = record { origin = own_name out.now.server.now; inc = out.now.server.now.inc; number = out.now.number }; message = out.now.message.now; publisher = Some conn; echo = echo; queues = chosen_for (own_name out.now.server.now) (unwrap_or (option_copied out.now.names) []) out.now.servers.now }) }
+    ensures { IfOk result (λ job.
+        job ≡ record {
+          turn = turn;
+          id = record {
+            origin = own_name out.now.server.now;
+            inc = out.now.server.now.inc;
+            number = out.now.number;
+          };
+          message = out.now.message.now;
+          publisher = Some conn;
+          echo = echo;
+          queues =
+              chosen_for (own_name out.now.server.now) (unwrap_or (option_copied out.now.names) [])
+              out.now.servers.now;
+        }) }
 {
     let queues = names_for(out.alloc, out.names, out.servers, out.server.name())?;
     let message = out.message.try_clone()?;
@@ -189,7 +229,8 @@ pub(crate) fn is_alone(server: &ServerIdentity, peers: &[Peer]) -> bool
 
 /// Whether the peer is eligible, and has a key with a queue name that matches the subject.
 fn wants_name(server: &ServerIdentity, place: usize, peer: &Peer, subject: &Subject) -> bool
-    ensures { result ≡ (eligible server.now place peer.now && has_queue_match subject.now peer.now.heard.keys) }
+    ensures { result
+        ≡ (eligible server.now place peer.now && has_queue_match subject.now peer.now.heard.keys) }
 {
     is_eligible(server, place, peer) && peer.heard.has_queue(subject)
 }
@@ -201,7 +242,9 @@ pub(crate) fn is_name_wanted(
     peers: &[Peer],
     subject: &Subject,
 ) -> bool
-    ensures { result ≡ (has_queue_match subject.now counts.now || wants_name_from server.now subject.now 0 peers.now) }
+    ensures { result
+        ≡ (has_queue_match subject.now counts.now
+        || wants_name_from server.now subject.now 0 peers.now) }
 {
     if counts.has_queue(subject) {
         return true;
@@ -222,7 +265,11 @@ fn add_names<'a>(
     subject: &Subject,
     names: &mut FoundNames<'a>,
 ) -> Result<(), TooManyNames>
-    ensures { AreGathered (if eligible server.now place peer.now then names_in subject.now peer.now.heard.keys names.old else names.old) names.new result }
+    ensures { AreGathered
+        (if eligible server.now place peer.now
+        then names_in subject.now peer.now.heard.keys names.old
+        else names.old)
+        names.new result }
 {
     if is_eligible(server, place, peer) {
         return peer.heard.names_in(subject, names);
@@ -241,7 +288,9 @@ pub(crate) fn gather_names<'a>(
     names: &mut FoundNames<'a>,
 ) -> Result<(), TooManyNames>
     requires { names.old ≡ [] }
-    ensures { AreFound (names_from server.now subject.now 0 peers.now (names_in subject.now counts.now [])) names.new result }
+    ensures { AreFound
+        (names_from server.now subject.now 0 peers.now (names_in subject.now counts.now []))
+        names.new result }
 {
     counts.names_in(subject, names)?;
     for (place, peer) in peers.iter().enumerate() {
@@ -283,7 +332,8 @@ fn server_for(
     name: &QueueName,
 ) -> Option<NodeId>
     requires { length peers.now ≡ length server.now.names }
-    ensures { result ≡ pick_of (weights_from server.now counts.now subject.now name.now 0 peers.now) word }
+    ensures { result
+        ≡ pick_of (weights_from server.now counts.now subject.now name.now 0 peers.now) word }
 {
     let _me = server.me();
     let mut weights = [(server.name(), 0); SERVERS];
@@ -304,7 +354,10 @@ fn server_at(
     name: Option<&QueueName>,
 ) -> Option<NodeId>
     requires { length peers.now ≡ length server.now.names }
-    ensures { result ≡ option_and_then (λ name. pick_of (weights_from server.now counts.now subject.now name 0 peers.now) word) (option_copied name.entry) }
+    ensures { result
+        ≡ option_and_then
+        (λ name. pick_of (weights_from server.now counts.now subject.now name 0 peers.now) word)
+        (option_copied name.entry) }
 {
     server_for(server, counts, peers, subject, word, name?)
 }
@@ -321,7 +374,11 @@ pub(crate) fn servers_for(
 ) -> Result<Vec<Option<NodeId>>, AllocError>
     requires { length peers.now ≡ length server.now.names }
     ensures few { length names.now ≤ MAX_QUEUE_NAMES }
-    ensures same { IfOk result (λ servers. servers.items ≡ map (λ name. pick_of (weights_from server.now counts.now subject.now name 0 peers.now) word) names.now) }
+    ensures same { IfOk result (λ servers.
+        servers.items
+        ≡ map
+        (λ name. pick_of (weights_from server.now counts.now subject.now name 0 peers.now) word)
+        names.now) }
 {
     let mut servers = Vec::new(alloc);
     for place in 0..names.len() {
@@ -347,7 +404,8 @@ pub(crate) fn push_copy(
     name: Option<&QueueName>,
     is_put: bool,
 ) -> Result<(), AllocError>
-    ensures { OnOk result (copies.new.items ≡ copies.old.items ++ (if is_put then option_to_list (option_copied name.entry) else [])) }
+    ensures { OnOk result (copies.new.items
+        ≡ copies.old.items ++ (if is_put then option_to_list (option_copied name.entry) else [])) }
 {
     match name {
         Some(name) if is_put => copies.push(name.try_clone(alloc)?)?,
@@ -402,8 +460,11 @@ pub(crate) fn names_for(
     server_name: NodeId,
 ) -> Result<QueueNames, AllocError>
     requires all { length (unwrap_or (option_copied names) []) ≤ length servers.now }
-    requires ordered { are_queue_names (chosen_for server_name (unwrap_or (option_copied names) []) servers.now) ≡ true }
-    ensures { IfOk result (λ queues. queues ≡ chosen_for server_name (unwrap_or (option_copied names.entry) []) servers.now) }
+    requires ordered { are_queue_names
+        (chosen_for server_name (unwrap_or (option_copied names) []) servers.now)
+        ≡ true }
+    ensures { IfOk result (λ queues.
+        queues ≡ chosen_for server_name (unwrap_or (option_copied names.entry) []) servers.now) }
 {
     match names {
         None => Ok(QueueNames::new()),

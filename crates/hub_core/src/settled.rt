@@ -12,7 +12,9 @@ impl Hub {
     /// Whether the other hub's server, at this place, is known as it runs: it is up in its incarnation, what was heard of its
     /// interest is just what the other hub counts, and there is room for a frame to it. Takes no memory.
     pub fn knows(&self, place: usize, other: &Hub) -> bool
-        ensures { result ≡ knows_at (slice_get self.now.state.peers place) other.now.server.inc other.now.state.counts }
+        ensures { result
+            ≡ knows_at (slice_get self.now.state.peers place) other.now.server.inc
+            other.now.state.counts }
     {
         match self.peers.get(place) {
             None => false,

@@ -9,8 +9,8 @@ pub record Writer : Type 0 where
   pub capacity : ℕ
   pub pushed : List Job
 
--- the end for popping: which lane it is of, all jobs that were popped, the one of them that is in hand, and the jobs of its
--- run behind it, which were not popped yet
+-- the end for popping: which lane it is of, all jobs that were popped, the one of them that is in
+-- hand, and the jobs of its run behind it, which were not popped yet
 pub record Reader : Type 0 where
   pub lane : TableId
   pub popped : List Job
@@ -23,13 +23,22 @@ from_hand end = option_to_list end.hand ++ end.behind
 
 -- of the jobs pushed the last ones waited, and beside them there was room for so many more
 abbrev pub HadRoom : ℕ → List Job → ℕ → Type 0
-HadRoom capacity pushed jobs = (popped : List Job) × (waiting : List Job) × (pushed ≡ popped ++ waiting) × (length waiting + jobs ≤ capacity)
+HadRoom capacity pushed jobs =
+    (popped : List Job)
+    × (waiting : List Job)
+    × (pushed ≡ popped ++ waiting)
+    × (length waiting + jobs ≤ capacity)
 
 -- the same, and there was none
 abbrev pub LackedRoom : ℕ → List Job → ℕ → Type 0
-LackedRoom capacity pushed jobs = (popped : List Job) × (waiting : List Job) × (pushed ≡ popped ++ waiting) × (capacity < length waiting + jobs)
+LackedRoom capacity pushed jobs =
+    (popped : List Job)
+    × (waiting : List Job)
+    × (pushed ≡ popped ++ waiting)
+    × (capacity < length waiting + jobs)
 
--- the next job: the first of those behind the one in hand, where there are such, and else the first of the next run
+-- the next job: the first of those behind the one in hand, where there are such, and else the first
+-- of the next run
 abbrev pub IsNextOf : List Job → Job → List Job → Type 0
 IsNextOf behind job left = (behind ≡ []) ⊎ (behind ≡ job ∷ left)
 

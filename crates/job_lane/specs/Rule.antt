@@ -10,14 +10,22 @@ use Rattle.job_lane.specs.Turns.{AreNumbered, AreNumberedBehind}
 use Rattle.job_lane.specs.Runs.{jobs_of}
 
 abbrev pub log : Bool → Bool → List (List Job) → List (List Job) → Log
-log may_push may_pop pushed popped = record { may_push = may_push; may_pop = may_pop; pushed = pushed; popped = popped }
+log may_push may_pop pushed popped = record {
+  may_push = may_push;
+  may_pop = may_pop;
+  pushed = pushed;
+  popped = popped;
+}
 
--- one pass at most may push, and it knows all that was pushed; one at most may pop, and it knows all that was popped
-pub record KnowsItsPart (writer reader : ℕ) (pushed popped : List (List Job)) (pass : ℕ) (known : Log) : Type 0 where
+-- one pass at most may push, and it knows all that was pushed; one at most may pop, and it knows
+-- all that was popped
+pub record KnowsItsPart (writer reader : ℕ) (pushed popped : List (List Job)) (pass : ℕ)
+    (known : Log) : Type 0 where
   pub push : known.may_push ≡ true → (pass ≡ writer) × (known.pushed ≡ pushed)
   pub pop : known.may_pop ≡ true → (pass ≡ reader) × (known.popped ≡ popped)
 
--- the runs pushed are those popped and then those that wait, and the turns of their jobs are 1, 2, .. in order
+-- the runs pushed are those popped and then those that wait, and the turns of their jobs are 1, 2,
+-- .. in order
 pub record HoldsInOrder (waiting : List (List Job)) (passes : List Log) : Type 0 where
   pub writer : ℕ
   pub reader : ℕ
@@ -25,11 +33,14 @@ pub record HoldsInOrder (waiting : List (List Job)) (passes : List Log) : Type 0
   pub popped : List (List Job)
   pub in_order : pushed ≡ popped ++ waiting
   pub numbered : AreNumbered (jobs_of pushed)
-  pub each : (pass : ℕ) (known : Log) → get_elem? passes pass ≡ some known → KnowsItsPart writer reader pushed popped pass known
+  pub each : (pass : ℕ) (known : Log)
+      → get_elem? passes pass ≡ some known
+      → KnowsItsPart writer reader pushed popped pass known
 
 -- a push adds the run to what was pushed
 abbrev pub Adds : Log → List Job → Log → Type 0
-Adds before run after = after ≡ log before.may_push before.may_pop (before.pushed ++ run ∷ []) before.popped
+Adds before run after =
+    after ≡ log before.may_push before.may_pop (before.pushed ++ run ∷ []) before.popped
 
 -- a pop adds the run to what was popped, and its jobs have the next turns
 abbrev pub Takes : Log → List Job → Log → Type 0
@@ -47,7 +58,8 @@ known_by pass = view pass
 
 -- ---- what the two ends keep
 
--- it may push and no more, each run that it pushed has jobs, and these have the turns 1, 2, .. in order
+-- it may push and no more, each run that it pushed has jobs, and these have the turns 1, 2, .. in
+-- order
 pub record IsPushing (known : Log) : Type 0 where
   pub alone : known ≡ log true false known.pushed []
   pub some : All (λ (run : List Job). 0 < length run) known.pushed
@@ -60,7 +72,11 @@ pub record IsPopping (known : Log) : Type 0 where
 
 -- these are the lengths of the last runs pushed
 abbrev pub AreLastLengths : List (List Job) → List ℕ → Type 0
-AreLastLengths pushed lengths = (before : List (List Job)) × (last : List (List Job)) × (pushed ≡ before ++ last) × (lengths ≡ map length last)
+AreLastLengths pushed lengths =
+    (before : List (List Job))
+    × (last : List (List Job))
+    × (pushed ≡ before ++ last)
+    × (lengths ≡ map length last)
 
 -- an empty list with room for so many runs and one more
 pub record IsSpare (most : ℕ) (items : List (List Job)) (len capacity : ℕ) : Type 0 where

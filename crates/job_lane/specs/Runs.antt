@@ -10,10 +10,16 @@ jobs_of runs = flat_map (λ run. run) runs
 
 -- a run goes on to its next job by leaving the first one behind
 abbrev pub GoesOn : List Job → List Job → Type 0
-GoesOn old new = (job : Job) × (next : Job) × (jobs : List Job) × (old ≡ job ∷ next ∷ jobs) × (new ≡ next ∷ jobs)
+GoesOn old new =
+    (job : Job) × (next : Job) × (jobs : List Job) × (old ≡ job ∷ next ∷ jobs) × (new ≡ next ∷ jobs)
 
 abbrev pub GoesOnIn : Option (List Job) → Option (List Job) → Type 0
-GoesOnIn old new = (job : Job) × (next : Job) × (jobs : List Job) × (old ≡ Some (job ∷ next ∷ jobs)) × (new ≡ Some (next ∷ jobs))
+GoesOnIn old new =
+    (job : Job)
+    × (next : Job)
+    × (jobs : List Job)
+    × (old ≡ Some (job ∷ next ∷ jobs))
+    × (new ≡ Some (next ∷ jobs))
 
 -- The run that is given out begins with the job in hand.
 abbrev pub job_in_hand : Option (List Job) → Option Job
@@ -40,10 +46,12 @@ left_of count (Some run) = Some (drop count run)
 
 -- the turn of the run's first job
 abbrev pub IsFirstTurn : Option (List Job) → Option ℕ → Type 0
-IsFirstTurn run turn = MatchOption turn (run ≡ None) (λ n. (job : Job) × (jobs : List Job) × (run ≡ Some (job ∷ jobs)) × (job.turn ≡ n))
+IsFirstTurn run turn =
+    MatchOption turn (run ≡ None)
+    (λ n. (job : Job) × (jobs : List Job) × (run ≡ Some (job ∷ jobs)) × (job.turn ≡ n))
 
--- One job more was given: the first of the run, which is the next of those that were not given, and whose turn says the how
--- manieth it is. Or none was left to give.
+-- One job more was given: the first of the run, which is the next of those that were not given, and
+-- whose turn says the how manieth it is. Or none was left to give.
 abbrev pub IsTaken : List Job → List Job → List Job → Option (List Job) → Option ℕ → Type 0
 IsTaken old new left run turn =
     MatchOption turn ((new ≡ old) × (run ≡ None) × (left ≡ []))

@@ -8,4 +8,5 @@ AreNumbered jobs = (k : ℕ) (job : Job) → slice_get jobs k ≡ Some job → j
 
 -- the same of jobs behind so many others
 abbrev pub AreNumberedBehind : ℕ → List Job → Type 0
-AreNumberedBehind count jobs = (k : ℕ) (job : Job) → slice_get jobs k ≡ Some job → job.turn ≡ count + k + 1
+AreNumberedBehind count jobs =
+    (k : ℕ) (job : Job) → slice_get jobs k ≡ Some job → job.turn ≡ count + k + 1

@@ -23,7 +23,8 @@ impl Model for Count {
 
     ghost view = { λ count. record { most = count.most; lengths = count.lengths.items } };
 
-    ghost invariant = { λ count. IsCount count.most count.jobs count.lengths.items (deque_capacity count.lengths) };
+    ghost invariant = { λ count.
+        IsCount count.most count.jobs count.lengths.items (deque_capacity count.lengths) };
 }
 
 impl Count {
@@ -51,7 +52,8 @@ impl Count {
     pub fn add(&mut self, jobs: usize)
         requires some { 0 < jobs }
         requires room { total_of self.old.lengths + jobs ≤ self.old.most }
-        ensures { self.new ≡ record { most = self.old.most; lengths = self.old.lengths ++ jobs ∷ [] } }
+        ensures { self.new
+            ≡ record { most = self.old.most; lengths = self.old.lengths ++ jobs ∷ [] } }
     {
         self.lengths.push_back_reserved(jobs);
         self.jobs += jobs;
@@ -71,7 +73,10 @@ impl Count {
 
     /// Forgets all but the last so many runs.
     pub fn keep_last(&mut self, runs: usize)
-        ensures { self.new ≡ record { most = self.old.most; lengths = drop (length self.old.lengths - runs) self.old.lengths } }
+        ensures { self.new ≡ record {
+          most = self.old.most;
+          lengths = drop (length self.old.lengths - runs) self.old.lengths;
+        } }
     {
         let forgotten = self.lengths.len().saturating_sub(runs);
         for _forgotten in 0..forgotten {

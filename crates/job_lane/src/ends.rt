@@ -47,9 +47,13 @@ impl Model for LaneIn {
       pushed = jobs_of (known_by end.pass).pushed;
     } };
 
-    ghost invariant = { λ end. IsPassOf (arc_value end.queue) end.pass × IsPushing (known_by end.pass)
-        × (end.count.most ≡ ruled_capacity (arc_value end.queue)) × AreLastLengths (known_by end.pass).pushed end.count.lengths
-        × IsSpare (ruled_capacity (arc_value end.queue)) end.spare.items (vec_len end.spare) (vec_capacity end.spare) };
+    ghost invariant = { λ end.
+        IsPassOf (arc_value end.queue) end.pass
+        × IsPushing (known_by end.pass)
+        × (end.count.most ≡ ruled_capacity (arc_value end.queue))
+        × AreLastLengths (known_by end.pass).pushed end.count.lengths
+        × IsSpare (ruled_capacity (arc_value end.queue)) end.spare.items (vec_len end.spare)
+        (vec_capacity end.spare) };
 }
 
 /// The end of a lane that jobs are popped at.
@@ -80,7 +84,10 @@ impl Model for LaneOut {
       behind = not_given end.run;
     } };
 
-    ghost invariant = { λ end. IsPassOf (arc_value end.queue) end.pass × IsPopping (known_by end.pass) × IsGiving (jobs_of (known_by end.pass).popped) end.run };
+    ghost invariant = { λ end.
+        IsPassOf (arc_value end.queue) end.pass
+        × IsPopping (known_by end.pass)
+        × IsGiving (jobs_of (known_by end.pass).popped) end.run };
 }
 
 /// The two ends of a new lane, in which up to `cap` jobs can wait. Required: `cap` is not 0.
@@ -91,7 +98,10 @@ pub fn lane(alloc: Global, cap: usize) -> Result<(LaneIn, LaneOut), AllocError>
     requires { 0 < cap }
     ensures of_one { IfOk result (λ ends. ends.0.lane ≡ ends.1.lane) }
     ensures capacity { IfOk result (λ ends. ends.0.capacity ≡ cap) }
-    ensures new { IfOk result (λ ends. (ends.0.pushed ≡ []) × (ends.1.popped ≡ []) × (ends.1.hand ≡ None)
+    ensures new { IfOk result (λ ends.
+        (ends.0.pushed ≡ [])
+        × (ends.1.popped ≡ [])
+        × (ends.1.hand ≡ None)
         × (ends.1.behind ≡ [])) }
 {
     let spare = Vec::with_capacity(alloc, cap.checked_add(1).ok_or(AllocError)?)?;
@@ -127,8 +137,12 @@ impl LaneIn {
     pub fn push<R: Wait>(&mut self, rt: &R, run: Run) -> Result<(), Run>
         requires { AreNumberedBehind (length self.old.pushed) run }
         ensures lane { (self.new.lane ≡ self.old.lane) × (self.new.capacity ≡ self.old.capacity) }
-        ensures ok { OnOk result ((self.new.pushed ≡ self.old.pushed ++ run) × HadRoom self.old.capacity self.old.pushed (length run)) }
-        ensures err { IfErr result (λ back. (back ≡ run) × (self.new.pushed ≡ self.old.pushed) × LackedRoom self.old.capacity self.old.pushed (length run)) }
+        ensures ok { OnOk result ((self.new.pushed ≡ self.old.pushed ++ run)
+            × HadRoom self.old.capacity self.old.pushed (length run)) }
+        ensures err { IfErr result (λ back.
+            (back ≡ run)
+            × (self.new.pushed ≡ self.old.pushed)
+            × LackedRoom self.old.capacity self.old.pushed (length run)) }
     {
         let jobs = run.jobs().len();
         if !has_room(rt, &self.queue, &mut self.pass, &mut self.count, jobs) {

@@ -29,8 +29,11 @@ pub fn has_room<R: Wait>(
     ensures pass { IsSamePass pass.old pass.new × (view pass.new ≡ view pass.old) }
     ensures counted { AreLastLengths (view pass.old).pushed count.new.lengths }
     ensures most { count.new.most ≡ count.old.most }
-    ensures room { result ≡ true → (total_of count.new.lengths + jobs ≤ count.old.most) × HadRoom count.old.most (jobs_of (view pass.old).pushed) jobs }
-    ensures none { result ≡ false → LackedRoom count.old.most (jobs_of (view pass.old).pushed) jobs }
+    ensures room { result ≡ true
+        → (total_of count.new.lengths + jobs ≤ count.old.most)
+        × HadRoom count.old.most (jobs_of (view pass.old).pushed) jobs }
+    ensures none { result ≡ false
+        → LackedRoom count.old.most (jobs_of (view pass.old).pushed) jobs }
 {
     if count.has_room(jobs) {
         return true;
@@ -49,7 +52,10 @@ pub fn push_by<R: Wait>(rt: &R, queue: &RunQueue, pass: &mut RunPass, run: Run) 
     ensures pass { IsPassOf queue.now pass.new }
     ensures pushing { IsPushing (view pass.new) }
     ensures ok { OnOk result ((view pass.new).pushed ≡ (view pass.old).pushed ++ run ∷ []) }
-    ensures err { IfErr result (λ back. (back ≡ run) × ((view pass.new).pushed ≡ (view pass.old).pushed) × LackedRoom (ruled_capacity queue.now) (jobs_of (view pass.old).pushed) (length run)) }
+    ensures err { IfErr result (λ back.
+        (back ≡ run)
+        × ((view pass.new).pushed ≡ (view pass.old).pushed)
+        × LackedRoom (ruled_capacity queue.now) (jobs_of (view pass.old).pushed) (length run)) }
 {
     queue.push_as::<Pushing, R>(rt, pass, run)
 }
@@ -60,7 +66,8 @@ pub fn pop_by<R: Wait>(rt: &R, queue: &RunQueue, pass: &mut RunPass) -> Option<R
     requires popping { IsPopping (view pass.old) }
     ensures pass { IsPassOf queue.now pass.new }
     ensures popping { IsPopping (view pass.new) }
-    ensures came { MatchOption result ((view pass.new).popped ≡ (view pass.old).popped) (λ run. (view pass.new).popped ≡ (view pass.old).popped ++ run ∷ []) }
+    ensures came { MatchOption result ((view pass.new).popped ≡ (view pass.old).popped)
+        (λ run. (view pass.new).popped ≡ (view pass.old).popped ++ run ∷ []) }
 {
     queue.pop_as::<Popping, R>(rt, pass)
 }
@@ -132,7 +139,9 @@ pub fn drain<R: Wait>(rt: &R, queue: &RunQueue, mut pass: RunPass, mut runs: Vec
     requires pass { IsPassOf queue.now pass }
     requires both { ((view pass).may_push ≡ true) × ((view pass).may_pop ≡ true) }
     requires room { vec_len runs + ruled_capacity queue.now ≤ vec_capacity runs }
-    ensures { (waiting : List (List Job)) × (result.items ≡ runs.items ++ waiting) × ((view pass).pushed ≡ (view pass).popped ++ waiting) }
+    ensures { (waiting : List (List Job))
+        × (result.items ≡ runs.items ++ waiting)
+        × ((view pass).pushed ≡ (view pass).popped ++ waiting) }
 {
     let waiting = queue.len_as::<Draining, R>(rt, &mut pass);
     for _taken in 0..waiting {

@@ -30,7 +30,9 @@ fields-blank x xs e = ap (λ b. kept (cond b ([] ∷ slice_split is_blank xs) (o
 
 fields-gap : (gap rest : List ℕ) → AreBlanks gap → fields (gap ++ rest) ≡ fields rest
 fields-gap [] rest blanks = refl
-fields-gap (x ∷ gap) rest blanks = let parts = and_true (is_blank x) (list_all is_blank gap) blanks in fields-blank x (gap ++ rest) parts.0 ∙ fields-gap gap rest parts.1
+fields-gap (x ∷ gap) rest blanks =
+    let parts = and_true (is_blank x) (list_all is_blank gap) blanks in
+    fields-blank x (gap ++ rest) parts.0 ∙ fields-gap gap rest parts.1
 
 -- the piece in front, and what the others are the fields of
 record Splits (front rest : List ℕ) : Type 0 where
@@ -47,13 +49,20 @@ splits [] (x ∷ xs) plain stop = record {
 }
 splits (x ∷ front) rest plain stop =
     let parts = or_false (is_blank x) (list_any is_blank front) plain in
-    let behind = splits front rest parts.1 stop in record {
+    let behind = splits front rest parts.1 stop in
+    record {
       others = behind.others;
-      is = ap (λ b. cond b ([] ∷ slice_split is_blank (front ++ rest)) (onto_first x (slice_split is_blank (front ++ rest)))) parts.0 ∙ ap (onto_first x) behind.is;
+      is =
+          ap (λ b.
+          cond b ([] ∷ slice_split is_blank (front ++ rest)) (onto_first x (slice_split is_blank (front ++ rest))))
+          parts.0
+          ∙ ap (onto_first x) behind.is;
       same = behind.same;
     }
 
-kept-field : (field : List ℕ) (others : List (List ℕ)) → is_empty field ≡ false → kept (field ∷ others) ≡ field ∷ kept others
+kept-field : (field : List ℕ) (others : List (List ℕ))
+    → is_empty field ≡ false
+    → kept (field ∷ others) ≡ field ∷ kept others
 kept-field [] others some = absurd (cc)
 kept-field (x ∷ xs) others some = refl
 
@@ -73,13 +82,17 @@ stops-gap (x ∷ gap) rest is = (and_true (is_blank x) (list_all is_blank gap) i
 blanks_only : (bytes : List ℕ) → AreBlanks bytes → (fields bytes ≡ []) × (stops bytes ≡ true)
 blanks_only [] blanks = (refl, refl)
 blanks_only (x ∷ xs) blanks =
-    let parts = and_true (is_blank x) (list_all is_blank xs) blanks in (fields-blank x xs parts.0 ∙ (blanks_only xs parts.1).0, parts.0)
+    let parts = and_true (is_blank x) (list_all is_blank xs) blanks in
+    (fields-blank x xs parts.0 ∙ (blanks_only xs parts.1).0, parts.0)
 
-pub fields_follow : (others : List (List ℕ)) (bytes : List ℕ) → FieldsFollow others bytes → (fields bytes ≡ others) × (stops bytes ≡ true)
+pub fields_follow : (others : List (List ℕ)) (bytes : List ℕ)
+    → FieldsFollow others bytes
+    → (fields bytes ≡ others) × (stops bytes ≡ true)
 fields_follow [] bytes follow = blanks_only bytes follow
 fields_follow (field ∷ others) bytes follow =
     let later = fields_follow others follow.rest follow.follows in (
-      ap fields follow.whole ∙ fields-gap follow.gap (field ++ follow.rest) follow.is_gap.1 ∙ fields-field field follow.rest follow.is_field later.1 ∙ ap (λ fs. field ∷ fs) later.0,
+      ap fields follow.whole ∙ fields-gap follow.gap (field ++ follow.rest) follow.is_gap.1
+          ∙ fields-field field follow.rest follow.is_field later.1 ∙ ap (λ fs. field ∷ fs) later.0,
       ap stops follow.whole ∙ stops-gap follow.gap (field ++ follow.rest) follow.is_gap,
     )
 
@@ -87,7 +100,9 @@ begins-field : (field rest : List ℕ) → IsField field → begins_with_blank (
 begins-field [] rest is = absurd (let empty = is.0 in cc)
 begins-field (x ∷ field) rest is = (or_false (is_blank x) (list_any is_blank field) is.1).0
 
-pub line_fields_are : (operation : List ℕ) (arguments : List (List ℕ)) (line : List ℕ) → Begins operation line (FieldsFollow arguments) → line_fields line ≡ operation ∷ arguments
+pub line_fields_are : (operation : List ℕ) (arguments : List (List ℕ)) (line : List ℕ)
+    → Begins operation line (FieldsFollow arguments)
+    → line_fields line ≡ operation ∷ arguments
 line_fields_are operation arguments line begins =
     let later = fields_follow arguments begins.rest begins.follows in
     ap line_fields begins.whole
@@ -99,16 +114,24 @@ line_fields_are operation arguments line begins =
 abbrev field_len : List ℕ → ℕ
 field_len bytes = position_or_len is_blank bytes
 
-plain_front_on : (x : ℕ) (xs : List ℕ) (b : Bool) → is_blank x ≡ b → list_any is_blank (take (field_len xs) xs) ≡ false → list_any is_blank (take (cond (not b) (1 + field_len xs) 0) (x ∷ xs)) ≡ false
+plain_front_on : (x : ℕ) (xs : List ℕ) (b : Bool)
+    → is_blank x ≡ b
+    → list_any is_blank (take (field_len xs) xs) ≡ false
+    → list_any is_blank (take (cond (not b) (1 + field_len xs) 0) (x ∷ xs)) ≡ false
 plain_front_on x xs true e later = refl
 plain_front_on x xs false e later =
-    ap (λ n. list_any is_blank (take n (x ∷ xs))) (one-add (field_len xs)) ∙ ap (λ b. b || list_any is_blank (take (field_len xs) xs)) e ∙ later
+    ap (λ n. list_any is_blank (take n (x ∷ xs))) (one-add (field_len xs))
+    ∙ ap (λ b. b || list_any is_blank (take (field_len xs) xs)) e
+    ∙ later
 
 plain_front : (bytes : List ℕ) → list_any is_blank (take (field_len bytes) bytes) ≡ false
 plain_front [] = refl
 plain_front (x ∷ xs) = plain_front_on x xs (is_blank x) refl (plain_front xs)
 
-stops_behind_on : (x : ℕ) (xs : List ℕ) (b : Bool) → is_blank x ≡ b → stops (drop (field_len xs) xs) ≡ true → stops (drop (cond (not b) (1 + field_len xs) 0) (x ∷ xs)) ≡ true
+stops_behind_on : (x : ℕ) (xs : List ℕ) (b : Bool)
+    → is_blank x ≡ b
+    → stops (drop (field_len xs) xs) ≡ true
+    → stops (drop (cond (not b) (1 + field_len xs) 0) (x ∷ xs)) ≡ true
 stops_behind_on x xs true e later = e
 stops_behind_on x xs false e later = ap (λ n. stops (drop n (x ∷ xs))) (one-add (field_len xs)) ∙ later
 
@@ -119,8 +142,14 @@ stops_behind (x ∷ xs) = stops_behind_on x xs (is_blank x) refl (stops_behind x
 abbrev gap_len : List ℕ → ℕ
 gap_len bytes = position_or_len is_field_byte bytes
 
-blanks_front_on : (x : ℕ) (xs : List ℕ) (b : Bool) → is_blank x ≡ b → AreBlanks (take (gap_len xs) xs) → AreBlanks (take (cond (not (not b)) (1 + gap_len xs) 0) (x ∷ xs))
-blanks_front_on x xs true e later = ap (λ n. list_all is_blank (take n (x ∷ xs))) (one-add (gap_len xs)) ∙ ap (λ b. b && list_all is_blank (take (gap_len xs) xs)) e ∙ later
+blanks_front_on : (x : ℕ) (xs : List ℕ) (b : Bool)
+    → is_blank x ≡ b
+    → AreBlanks (take (gap_len xs) xs)
+    → AreBlanks (take (cond (not (not b)) (1 + gap_len xs) 0) (x ∷ xs))
+blanks_front_on x xs true e later =
+    ap (λ n. list_all is_blank (take n (x ∷ xs))) (one-add (gap_len xs))
+    ∙ ap (λ b. b && list_all is_blank (take (gap_len xs) xs)) e
+    ∙ later
 blanks_front_on x xs false e later = refl
 
 blanks_front : (bytes : List ℕ) → AreBlanks (take (gap_len bytes) bytes)
@@ -137,19 +166,24 @@ field_of bytes = take (field_len (rest_of bytes)) (rest_of bytes)
 abbrev behind_field : List ℕ → List ℕ
 behind_field bytes = drop (field_len (rest_of bytes)) (rest_of bytes)
 
-first_field_is : (bytes : List ℕ) → gap_len bytes < length bytes → fields bytes ≡ field_of bytes ∷ fields (behind_field bytes)
+first_field_is : (bytes : List ℕ)
+    → gap_len bytes < length bytes
+    → fields bytes ≡ field_of bytes ∷ fields (behind_field bytes)
 first_field_is bytes l = skip bytes ∙ in_front (rest_of bytes) (starts bytes l)
 
 nonempty_on : (x : ℕ) (xs : List ℕ) → is_blank x ≡ false → is_empty (take (field_len (x ∷ xs)) (x ∷ xs)) ≡ false
 nonempty_on x xs e =
-    ap (λ b. is_empty (take (cond (not b) (1 + field_len xs) 0) (x ∷ xs))) e ∙ ap (λ n. is_empty (take n (x ∷ xs))) (one-add (field_len xs))
+    ap (λ b. is_empty (take (cond (not b) (1 + field_len xs) 0) (x ∷ xs))) e
+    ∙ ap (λ n. is_empty (take n (x ∷ xs))) (one-add (field_len xs))
 
 front_is_field : (rest : List ℕ) → BeginsField rest → IsField (take (field_len rest) rest)
 front_is_field rest begins =
     let P : List ℕ → Type 0 = λ t. is_empty (take (field_len t) t) ≡ false in
     (subst P (sym begins.is) (nonempty_on begins.head begins.tail begins.other), plain_front rest)
 
-none_or_field : (bytes : List ℕ) (none : Bool) → nat_lt (gap_len bytes) (length bytes) ≡ none → (length bytes ≤ gap_len bytes) ⊎ (gap_len bytes < length bytes)
+none_or_field : (bytes : List ℕ) (none : Bool)
+    → nat_lt (gap_len bytes) (length bytes) ≡ none
+    → (length bytes ≤ gap_len bytes) ⊎ (gap_len bytes < length bytes)
 none_or_field bytes true e = inr (grind (arith, nat_tests))
 none_or_field bytes false e = inl (grind (arith, nat_tests))
 
@@ -159,55 +193,95 @@ all_blanks bytes past = subst AreBlanks (take_all (gap_len bytes) bytes past) (b
 no_field_bytes : (bytes : List ℕ) → length bytes ≤ gap_len bytes → fields bytes ≡ []
 no_field_bytes bytes past = skip bytes ∙ ap fields (drop_all (gap_len bytes) bytes past)
 
-gap_is_some : (bytes : List ℕ) → stops bytes ≡ true → gap_len bytes < length bytes → is_empty (take (gap_len bytes) bytes) ≡ false
+gap_is_some : (bytes : List ℕ)
+    → stops bytes ≡ true
+    → gap_len bytes < length bytes
+    → is_empty (take (gap_len bytes) bytes) ≡ false
 gap_is_some [] stop l = absurd (omega arith)
 gap_is_some (x ∷ xs) stop l =
-    ap (λ b. is_empty (take (cond (not (not b)) (1 + gap_len xs) 0) (x ∷ xs))) stop ∙ ap (λ n. is_empty (take n (x ∷ xs))) (one-add (gap_len xs))
+    ap (λ b. is_empty (take (cond (not (not b)) (1 + gap_len xs) 0) (x ∷ xs))) stop
+    ∙ ap (λ n. is_empty (take n (x ∷ xs))) (one-add (gap_len xs))
 
 whole_of : (bytes : List ℕ) (n m : ℕ) → bytes ≡ take n bytes ++ (take m (drop n bytes) ++ drop m (drop n bytes))
-whole_of bytes n m = sym (take-append-drop n bytes) ∙ ap (λ rest. take n bytes ++ rest) (sym (take-append-drop m (drop n bytes)))
+whole_of bytes n m =
+    sym (take-append-drop n bytes) ∙ ap (λ rest. take n bytes ++ rest) (sym (take-append-drop m (drop n bytes)))
 
-head_is : (bytes field : List ℕ) (others : List (List ℕ)) → gap_len bytes < length bytes → fields bytes ≡ field ∷ others → (field_of bytes ≡ field) × (fields (behind_field bytes) ≡ others)
-head_is bytes field others some are = let same : field_of bytes ∷ fields (behind_field bytes) ≡ field ∷ others = sym (first_field_is bytes some) ∙ are in (cc, cc)
+head_is : (bytes field : List ℕ) (others : List (List ℕ))
+    → gap_len bytes < length bytes
+    → fields bytes ≡ field ∷ others
+    → (field_of bytes ≡ field) × (fields (behind_field bytes) ≡ others)
+head_is bytes field others some are =
+    let same : field_of bytes ∷ fields (behind_field bytes) ≡ field ∷ others =
+    sym (first_field_is bytes some) ∙ are in
+    (cc, cc)
 
-no_follow : (bytes : List ℕ) → fields bytes ≡ [] → (length bytes ≤ gap_len bytes) ⊎ (gap_len bytes < length bytes) → AreBlanks bytes
+no_follow : (bytes : List ℕ)
+    → fields bytes ≡ []
+    → (length bytes ≤ gap_len bytes) ⊎ (gap_len bytes < length bytes)
+    → AreBlanks bytes
 no_follow bytes are (inl past) = all_blanks bytes past
-no_follow bytes are (inr some) = absurd (let first : field_of bytes ∷ fields (behind_field bytes) ≡ [] = sym (first_field_is bytes some) ∙ are in cc)
+no_follow bytes are (inr some) =
+    absurd (let first : field_of bytes ∷ fields (behind_field bytes) ≡ [] = sym (first_field_is bytes some) ∙ are in cc)
 
-next_follows : (bytes field : List ℕ) (others : List (List ℕ)) → fields bytes ≡ field ∷ others → stops bytes ≡ true → (fields (behind_field bytes) ≡ others → FieldsFollow others (behind_field bytes)) → (length bytes ≤ gap_len bytes) ⊎ (gap_len bytes < length bytes) → ComesNext field bytes (FieldsFollow others)
-next_follows bytes field others are stop later (inl past) = absurd (let none : [] ≡ field ∷ others = sym (no_field_bytes bytes past) ∙ are in cc)
-next_follows bytes field others are stop later (inr some) = let parts = head_is bytes field others some are in record {
-  gap = take (gap_len bytes) bytes;
-  rest = behind_field bytes;
-  whole = whole_of bytes (gap_len bytes) (field_len (rest_of bytes)) ∙ ap (λ f. take (gap_len bytes) bytes ++ (f ++ behind_field bytes)) parts.0;
-  is_gap = (gap_is_some bytes stop some, blanks_front bytes);
-  is_field = subst IsField parts.0 (front_is_field (rest_of bytes) (starts bytes some));
-  follows = later parts.1;
-}
+next_follows : (bytes field : List ℕ) (others : List (List ℕ))
+    → fields bytes ≡ field ∷ others
+    → stops bytes ≡ true
+    → (fields (behind_field bytes) ≡ others → FieldsFollow others (behind_field bytes))
+    → (length bytes ≤ gap_len bytes) ⊎ (gap_len bytes < length bytes)
+    → ComesNext field bytes (FieldsFollow others)
+next_follows bytes field others are stop later (inl past) =
+    absurd (let none : [] ≡ field ∷ others = sym (no_field_bytes bytes past) ∙ are in cc)
+next_follows bytes field others are stop later (inr some) =
+    let parts = head_is bytes field others some are in
+    record {
+      gap = take (gap_len bytes) bytes;
+      rest = behind_field bytes;
+      whole =
+          whole_of bytes (gap_len bytes) (field_len (rest_of bytes))
+          ∙ ap (λ f. take (gap_len bytes) bytes ++ (f ++ behind_field bytes)) parts.0;
+      is_gap = (gap_is_some bytes stop some, blanks_front bytes);
+      is_field = subst IsField parts.0 (front_is_field (rest_of bytes) (starts bytes some));
+      follows = later parts.1;
+    }
 
-pub follow_fields : (others : List (List ℕ)) (bytes : List ℕ) → fields bytes ≡ others → stops bytes ≡ true → FieldsFollow others bytes
+pub follow_fields : (others : List (List ℕ)) (bytes : List ℕ)
+    → fields bytes ≡ others
+    → stops bytes ≡ true
+    → FieldsFollow others bytes
 follow_fields [] bytes are stop = no_follow bytes are (none_or_field bytes _ refl)
 follow_fields (field ∷ others) bytes are stop =
-    next_follows bytes field others are stop (λ later. follow_fields others (behind_field bytes) later (stops_behind (rest_of bytes))) (none_or_field bytes _ refl)
+    next_follows bytes field others are stop
+    (λ later. follow_fields others (behind_field bytes) later (stops_behind (rest_of bytes)))
+    (none_or_field bytes _ refl)
 
 -- a line that begins with a field
-line_begins : (line operation : List ℕ) (arguments : List (List ℕ)) → fields line ≡ operation ∷ arguments → begins_with_blank line ≡ false → Begins operation line (FieldsFollow arguments)
+line_begins : (line operation : List ℕ) (arguments : List (List ℕ))
+    → fields line ≡ operation ∷ arguments
+    → begins_with_blank line ≡ false
+    → Begins operation line (FieldsFollow arguments)
 line_begins [] operation arguments are plain = absurd (cc)
 line_begins (x ∷ xs) operation arguments are plain =
     let begins : BeginsField (x ∷ xs) = record { head = x; tail = xs; is = refl; other = plain } in
     let n = field_len (x ∷ xs) in
-    let same : take n (x ∷ xs) ∷ fields (drop n (x ∷ xs)) ≡ operation ∷ arguments = sym (in_front (x ∷ xs) begins) ∙ are in
+    let same : take n (x ∷ xs) ∷ fields (drop n (x ∷ xs)) ≡ operation ∷ arguments =
+    sym (in_front (x ∷ xs) begins) ∙ are in
     let operation_is : take n (x ∷ xs) ≡ operation = cc in
-    let arguments_are : fields (drop n (x ∷ xs)) ≡ arguments = cc in record {
+    let arguments_are : fields (drop n (x ∷ xs)) ≡ arguments = cc in
+    record {
       rest = drop n (x ∷ xs);
       whole = sym (take-append-drop n (x ∷ xs)) ∙ ap (λ f. f ++ drop n (x ∷ xs)) operation_is;
       is_field = subst IsField operation_is (front_is_field (x ∷ xs) begins);
       follows = follow_fields arguments (drop n (x ∷ xs)) arguments_are (stops_behind (x ∷ xs));
     }
 
-begins_by : (line operation : List ℕ) (arguments : List (List ℕ)) (b : Bool) → begins_with_blank line ≡ b → cond b [] (fields line) ≡ operation ∷ arguments → Begins operation line (FieldsFollow arguments)
+begins_by : (line operation : List ℕ) (arguments : List (List ℕ)) (b : Bool)
+    → begins_with_blank line ≡ b
+    → cond b [] (fields line) ≡ operation ∷ arguments
+    → Begins operation line (FieldsFollow arguments)
 begins_by line operation arguments true blank are = absurd (cc)
 begins_by line operation arguments false blank are = line_begins line operation arguments are blank
 
-pub begins_with_fields : (line operation : List ℕ) (arguments : List (List ℕ)) → line_fields line ≡ operation ∷ arguments → Begins operation line (FieldsFollow arguments)
+pub begins_with_fields : (line operation : List ℕ) (arguments : List (List ℕ))
+    → line_fields line ≡ operation ∷ arguments
+    → Begins operation line (FieldsFollow arguments)
 begins_with_fields line operation arguments are = begins_by line operation arguments (begins_with_blank line) refl are

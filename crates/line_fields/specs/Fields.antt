@@ -35,7 +35,8 @@ is_word word field = bytes_eq (str_to_ascii_lowercase field) (str_to_ascii_lower
 
 -- profile: a number is ASCII digits, at least one and at most so many
 abbrev pub is_digit_field : ℕ → List ℕ → Bool
-is_digit_field most field = not (is_empty field) && (nat_le (length field) most && all_ascii_digits field)
+is_digit_field most field =
+    not (is_empty field) && (nat_le (length field) most && all_ascii_digits field)
 
 -- the number that a field spells
 abbrev pub number_of : ℕ → List ℕ → Option ℕ

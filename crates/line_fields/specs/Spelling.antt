@@ -41,7 +41,13 @@ IsLineOf first others line = Begins first line (FieldsFollow others)
 -- ---- a line has the fields that it is put together from, and no others
 
 abbrev pub HasItsFields : Type 0
-HasItsFields = (first : List ℕ) (others : List (List ℕ)) (line : List ℕ) → IsLineOf first others line → line_fields line ≡ first ∷ others
+HasItsFields =
+    (first : List ℕ) (others : List (List ℕ)) (line : List ℕ)
+    → IsLineOf first others line
+    → line_fields line ≡ first ∷ others
 
 abbrev pub IsOfItsFields : Type 0
-IsOfItsFields = (first : List ℕ) (others : List (List ℕ)) (line : List ℕ) → line_fields line ≡ first ∷ others → IsLineOf first others line
+IsOfItsFields =
+    (first : List ℕ) (others : List (List ℕ)) (line : List ℕ)
+    → line_fields line ≡ first ∷ others
+    → IsLineOf first others line

@@ -40,7 +40,9 @@ pub le_true : (a b : ℕ) → nat_le a b ≡ true → a ≤ b
 le_true a b e = grind (arith, nat_tests, e)
 
 -- a cause that isn't told doesn't stand
-pub no_cause : {R : Type 0} (b : Bool) (x : R) (o : Option R) → (if b then Some x else o) ≡ None → (b ≡ false) × (o ≡ None)
+pub no_cause : {R : Type 0} (b : Bool) (x : R) (o : Option R)
+    → (if b then Some x else o) ≡ None
+    → (b ≡ false) × (o ≡ None)
 no_cause true x o e = absurd (none-some x (sym e))
 no_cause false x o e = (refl, e)
 
@@ -71,7 +73,11 @@ pub has_in : (k : ℕ) (xs : List ℕ) → list_any (nat_eq k) xs ≡ true → I
 has_in k [] e = absurd (true≢false (sym e))
 has_in k (x ∷ xs) e = go (has_in k xs) (nat_eq k x) refl e
   where
-    go : (list_any (nat_eq k) xs ≡ true → In k xs) → (b : Bool) → nat_eq k x ≡ b → (b || list_any (nat_eq k) xs) ≡ true → In k (x ∷ xs)
+    go : (list_any (nat_eq k) xs ≡ true → In k xs)
+        → (b : Bool)
+        → nat_eq k x ≡ b
+        → (b || list_any (nat_eq k) xs) ≡ true
+        → In k (x ∷ xs)
     go below true f g = inl (eq_true k x f)
     go below false f g = inr (below g)
 
@@ -79,6 +85,10 @@ pub in_has : (k : ℕ) (xs : List ℕ) → In k xs → list_any (nat_eq k) xs �
 in_has k [] i = absurd i
 in_has k (x ∷ xs) i = go (in_has k xs) (nat_eq k x) refl i
   where
-    go : (In k xs → list_any (nat_eq k) xs ≡ true) → (b : Bool) → nat_eq k x ≡ b → In k (x ∷ xs) → (b || list_any (nat_eq k) xs) ≡ true
+    go : (In k xs → list_any (nat_eq k) xs ≡ true)
+        → (b : Bool)
+        → nat_eq k x ≡ b
+        → In k (x ∷ xs)
+        → (b || list_any (nat_eq k) xs) ≡ true
     go below true f j = refl
     go below false f j = ⊎_elim (λ (e : k ≡ x). absurd (eq_false k x f e)) (λ (l : In k xs). below l) j

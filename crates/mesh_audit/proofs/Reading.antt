@@ -9,5 +9,11 @@ pub on_err : {T E : Type 0} (P : Type 0) (result : Result T E) → P → OnErr r
 on_err P (Ok x) p = tt
 on_err P (Err e) p = p
 
-pub away : (before mid left : Option (List ℕ)) (bytes : List ℕ) → Consumes before mid bytes → ReadsAway mid left → ReadsAway before left
-away before mid left bytes consumed lost = record { bytes = bytes ++ lost.bytes; consumed = Consumes-trans before mid left bytes lost.bytes consumed lost.consumed }
+pub away : (before mid left : Option (List ℕ)) (bytes : List ℕ)
+    → Consumes before mid bytes
+    → ReadsAway mid left
+    → ReadsAway before left
+away before mid left bytes consumed lost = record {
+  bytes = bytes ++ lost.bytes;
+  consumed = Consumes-trans before mid left bytes lost.bytes consumed lost.consumed;
+}

@@ -1,4 +1,5 @@
--- What a program does that reads a log and tells what its audit finds, over any reader and writer that tell their bytes (profile).
+-- What a program does that reads a log and tells what its audit finds, over any reader and writer
+-- that tell their bytes (profile).
 use Rattle.std.specs.Prelude.{◌≡◌, ℕ, ◌≤◌, List, [], ◌∷◌, ◌++◌, codes, decimal, Option, Some, None, Result, Ok, Err}
 use Rattle.std.specs.Io.KnownBytes.{Appends, Consumes, IsAtEnd}
 use Rattle.wire_cut.specs.Flow.{AppendsFront}
@@ -30,11 +31,13 @@ IsTold log found was is = IsFound log found × Appends was is (verdict_line foun
 
 -- a front of a line of what is found, and not all of it
 abbrev pub IsTornVerdict : Log → Option (List ℕ) → Option (List ℕ) → Type 0
-IsTornVerdict log was is = (found : Option ℕ) × IsFound log found × AppendsFront was is (verdict_line found)
+IsTornVerdict log was is =
+    (found : Option ℕ) × IsFound log found × AppendsFront was is (verdict_line found)
 
 -- nothing is written for want of memory
 
-abbrev pub TellsVerdict : {T : Type 0} → Log → Result T AuditFault → Option (List ℕ) → Option (List ℕ) → Type 0
+abbrev pub TellsVerdict : {T : Type 0} → Log → Result T AuditFault → Option (List ℕ)
+    → Option (List ℕ) → Type 0
 TellsVerdict log (Ok x) was is = IsTold log None was is
 TellsVerdict log (Err (Breach number)) was is = IsTold log (Some number) was is
 TellsVerdict log (Err (Refused error)) was is = ⊥
@@ -42,34 +45,40 @@ TellsVerdict log (Err Read) was is = ⊥
 TellsVerdict log (Err Write) was is = IsTornVerdict log was is
 TellsVerdict log (Err OutOfMemory) was is = Appends was is []
 
-abbrev pub TellsRefusal : {T : Type 0} → LogFault → Result T AuditFault → Option (List ℕ) → Option (List ℕ) → Type 0
+abbrev pub TellsRefusal : {T : Type 0} → LogFault → Result T AuditFault → Option (List ℕ)
+    → Option (List ℕ) → Type 0
 TellsRefusal fault (Ok x) was is = ⊥
 TellsRefusal fault (Err (Breach number)) was is = ⊥
-TellsRefusal fault (Err (Refused error)) was is = (error.fault ≡ fault) × Appends was is (refused_line fault)
+TellsRefusal fault (Err (Refused error)) was is =
+    (error.fault ≡ fault) × Appends was is (refused_line fault)
 TellsRefusal fault (Err Read) was is = ⊥
 TellsRefusal fault (Err Write) was is = AppendsFront was is (refused_line fault)
 TellsRefusal fault (Err OutOfMemory) was is = Appends was is []
 
 -- of what bytes are as a log
-abbrev pub Tells : {T : Type 0} → Result Log LogFault → Result T AuditFault → Option (List ℕ) → Option (List ℕ) → Type 0
+abbrev pub Tells : {T : Type 0} → Result Log LogFault → Result T AuditFault → Option (List ℕ)
+    → Option (List ℕ) → Type 0
 Tells (Ok log) result was is = TellsVerdict log result was is
 Tells (Err fault) result was is = TellsRefusal fault result was is
 
 -- ---- the whole
 
 -- all was read, and is told of
-pub record TellsAll {T : Type 0} (read : List ℕ) (result : Result T AuditFault) (left was is : Option (List ℕ)) : Type 0 where
+pub record TellsAll {T : Type 0} (read : List ℕ) (result : Result T AuditFault)
+    (left was is : Option (List ℕ)) : Type 0 where
   pub all : IsAtEnd left
   pub tells : Tells (log_of read) result was is
 
 -- where a read failed, or memory was wanting before there was a log, nothing is written
-abbrev pub Answers : {T : Type 0} → List ℕ → Result T AuditFault → Option (List ℕ) → Option (List ℕ) → Option (List ℕ) → Type 0
+abbrev pub Answers : {T : Type 0} → List ℕ → Result T AuditFault → Option (List ℕ) → Option (List ℕ)
+    → Option (List ℕ) → Type 0
 Answers read (Err Read) left was is = Appends was is []
 Answers read (Err OutOfMemory) left was is = Appends was is []
 Answers read result left was is = TellsAll read result left was is
 
 -- the reader gave these bytes
-pub record Audits {T : Type 0} (result : Result T AuditFault) (before left was is : Option (List ℕ)) : Type 0 where
+pub record Audits {T : Type 0} (result : Result T AuditFault)
+    (before left was is : Option (List ℕ)) : Type 0 where
   pub read : List ℕ
   pub consumed : Consumes before left read
   pub answers : Answers read result left was is

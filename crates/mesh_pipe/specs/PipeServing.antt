@@ -53,7 +53,8 @@ pub record IsServing (s : of_node.Served) : Type 0 where
   pub alone : s.node.hub.peers ≡ unknown_peer ∷ []
   pub published : s.node.hub.published ≡ s.node.hub.issued
   -- each opening and each closing is one change at most
-  pub changed : s.node.hub.changed + (length (shard_in s).deltas + length (shard_in s).subs) ≤ 2 * (shard_in s).opened
+  pub changed : s.node.hub.changed + (length (shard_in s).deltas + length (shard_in s).subs)
+      ≤ 2 * (shard_in s).opened
   pub opened : (shard_in s).opened ≤ MAX_SERIAL
   pub ran : HasRun s.node
 
@@ -80,7 +81,9 @@ refusal_of (node_fault.Session fault) = refusal.Other
 abbrev pub placing_refused : Pub → State → Option Refusal
 placing_refused p t =
     if nat_le MAX_COUNTER t.finished then Some refusal.NumbersSpent
-    else (if nat_lt MAX_QUEUE_NAMES (length (names_wanted p.message.subject t.subs)) then Some refusal.TooManyQueueGroups else None)
+    else (if nat_lt MAX_QUEUE_NAMES (length (names_wanted p.message.subject t.subs))
+    then Some refusal.TooManyQueueGroups
+    else None)
 
 -- a job waits, of whose turn nothing is claimed
 pub record HasIssued (p : Pub) (old new : of_node.Served) : Type 0 where
@@ -90,9 +93,11 @@ pub record HasIssued (p : Pub) (old new : of_node.Served) : Type 0 where
   pub free : AreFree 0 new.node.race
 
 -- the subscription is opened, or refused by this cause
-abbrev pub IsOpened : Option ShardFault → Event → of_node.Served → Result (Unit {0}) Refusal → of_node.Served → Type 0
+abbrev pub IsOpened : Option ShardFault → Event → of_node.Served → Result (Unit {0}) Refusal
+    → of_node.Served → Type 0
 IsOpened cause event old (Ok done) new = (cause ≡ None) × Steps old event new
-IsOpened cause event old (Err why) new = (fault : ShardFault) × (cause ≡ Some fault) × (why ≡ refusal_of_shard fault) × (new ≡ old)
+IsOpened cause event old (Err why) new =
+    (fault : ShardFault) × (cause ≡ Some fault) × (why ≡ refusal_of_shard fault) × (new ≡ old)
 
 -- ---- a job is worked off
 
@@ -157,6 +162,7 @@ waiting_bytes t = bytes_of_all (take all_entries (waits_for 1 t.clients))
 -- ---- a publication
 
 -- done, or refused by this cause
-abbrev pub IsPublished : Option Refusal → Pub → of_node.Served → Result (Unit {0}) Refusal → of_node.Served → Type 0
+abbrev pub IsPublished : Option Refusal → Pub → of_node.Served → Result (Unit {0}) Refusal
+    → of_node.Served → Type 0
 IsPublished cause p old (Ok done) new = (cause ≡ None) × HasIssued p old new
 IsPublished cause p old (Err why) new = (cause ≡ Some why) × (new ≡ old)

@@ -53,7 +53,8 @@ IsTold Other s said = ⊥
 abbrev pub HasServed : {R : Type 0} → Outcome → Output → PipeServer R → PipeServer R → Type 0
 HasServed (Answered (Ok done)) said old new = (said.closed ≡ false) × HasSaid said old new
 HasServed (Answered (Err why)) said old new = IsTold why (served_state old) said × (new ≡ old)
-HasServed Closed said old new = (said.closed ≡ true) × (new.output.items ≡ old.output.items ++ said.text)
+HasServed Closed said old new =
+    (said.closed ≡ true) × (new.output.items ≡ old.output.items ++ said.text)
 
 -- how much an ask leads to, where of a refusal the client is told
 abbrev pub asks_of : ClientAction → ℕ

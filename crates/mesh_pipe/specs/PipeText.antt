@@ -1,6 +1,6 @@
--- The pipe's text: what one client is written, of what was read of it.
--- NATS documentation, "Client Protocol", is what its asks rest on. The order of the answers, and when a connection closes,
--- are this project's profile.
+-- The pipe's text: what one client is written, of what was read of it. NATS documentation, "Client
+-- Protocol", is what its asks rest on. The order of the answers, and when a connection closes, are
+-- this project's profile.
 use Rattle.std.specs.Prelude.{ℕ, zero, suc, ◌+◌, Bool, true, false, not, nat_le, nat_lt, List, [], ◌∷◌, ◌++◌, length, map, codes, Option, Some, None, if◌then◌else◌}
 use Rattle.subj.specs.declared.jobs.Job.{Job}
 use Rattle.subj.specs.declared.keys.Key.{Key}
@@ -26,10 +26,13 @@ use Rattle.shard_core.specs.ShardSteps.{new_client, after_attach, shard_refusal,
 
 -- node `n1` in its first life takes one client, by no port
 unfoldable pub pipe_info : InfoData
-pipe_info = record { server = record { name = codes "n1"; inc = 1; host = codes "127.0.0.1"; port = 0 }; client_id = 1 }
+pipe_info = record {
+  server = record { name = codes "n1"; inc = 1; host = codes "127.0.0.1"; port = 0 };
+  client_id = 1;
+}
 
--- what an answer depends on: the open subscriptions in order of opening, how many were opened, how many jobs were made, and whether
--- the client takes headers
+-- what an answer depends on: the open subscriptions in order of opening, how many were opened, how
+-- many jobs were made, and whether the client takes headers
 pub record Served : Type 0 where
   pub subs : List Subscription
   pub opened : ℕ
@@ -41,7 +44,12 @@ at_first = record { subs = []; opened = 0; jobs = 0; headers = false }
 
 -- its one shard, with its one connection, for which nothing waits
 abbrev pub at_rest : Served → State
-at_rest s = record (after_attach (new_shard 1 1)) { opened = s.opened; finished = s.jobs; clients = with_headers s.headers (new_client 1) ∷ []; subs = s.subs }
+at_rest s = record (after_attach (new_shard 1 1)) {
+  opened = s.opened;
+  finished = s.jobs;
+  clients = with_headers s.headers (new_client 1) ∷ [];
+  subs = s.subs;
+}
 
 -- ---- what is written
 
@@ -63,11 +71,20 @@ abbrev pub and_then : Output → (Served → Output) → Output
 and_then first rest = if first.closed then first else text_before first.text (rest first.served)
 
 abbrev pub served_by : State → Served
-served_by t = record { subs = t.subs; opened = t.opened; jobs = t.finished; headers = takes_headers 1 t.clients }
+served_by t = record {
+  subs = t.subs;
+  opened = t.opened;
+  jobs = t.finished;
+  headers = takes_headers 1 t.clients;
+}
 
 -- all that the shard has put for the connection, and whether it was shut
 abbrev pub output_of : State → Output
-output_of t = record { text = bytes_of_all (waits_for 1 t.clients); served = served_by t; closed = not (is_open 1 t.clients) }
+output_of t = record {
+  text = bytes_of_all (waits_for 1 t.clients);
+  served = served_by t;
+  closed = not (is_open 1 t.clients);
+}
 
 -- what one event leads to
 abbrev pub after_event : Event → Served → Output
@@ -79,7 +96,8 @@ error_told text s = after_event (Reply 1 (reply.Err text)) s
 
 -- ---- a subscription is opened, or the client is told why not
 
--- the two causes for which the shard of one open connection refuses a subscription; the others have no text
+-- the two causes for which the shard of one open connection refuses a subscription; the others have
+-- no text
 abbrev pub opening_refused : ShardFault → Served → Output
 opening_refused TooManySubs s = error_told TooManySubscriptions s
 opening_refused Spent s = error_told NumbersSpent s
@@ -90,11 +108,13 @@ opened_or_not key sid s None = after_event (Subscribe 1 key sid) s
 opened_or_not key sid s (Some fault) = opening_refused fault s
 
 abbrev pub output_of_subscribe : Key → List ℕ → Served → Output
-output_of_subscribe key sid s = opened_or_not key sid s (shard_refusal (at_rest s) (Subscribe 1 key sid))
+output_of_subscribe key sid s =
+    opened_or_not key sid s (shard_refusal (at_rest s) (Subscribe 1 key sid))
 
 -- ---- a publication makes a job of the next turn, which is worked off
 
--- NATS documentation, "Queue Groups": the queue names of open subscriptions that match, each once, in the order of bytes
+-- NATS documentation, "Queue Groups": the queue names of open subscriptions that match, each once,
+-- in the order of bytes
 abbrev pub names_wanted : List ℕ → List Subscription → List (List ℕ)
 names_wanted subject subs = names_in subject (map (λ sub. (sub.key, 1)) subs) []
 
@@ -108,7 +128,8 @@ job_of p s = record {
   queues = names_wanted p.message.subject s.subs;
 }
 
--- the first so many queue names of the job in hand are claimed, in order, and each claim with a candidate is won
+-- the first so many queue names of the job in hand are claimed, in order, and each claim with a
+-- candidate is won
 abbrev pub after_claims : ℕ → State → State
 after_claims zero t = t
 after_claims (suc n) t = shard_after (after_claims n t) (Claim n true)
@@ -120,7 +141,8 @@ after_job job t = shard_after (after_claims (length job.queues) (shard_after t (
 abbrev pub output_of_publish : Pub → Served → Output
 output_of_publish p s =
     if nat_le MAX_COUNTER s.jobs then error_told NumbersSpent s
-    else (if nat_lt MAX_QUEUE_NAMES (length (names_wanted p.message.subject s.subs)) then error_told TooManyQueueGroups s
+    else (if nat_lt MAX_QUEUE_NAMES (length (names_wanted p.message.subject s.subs))
+    then error_told TooManyQueueGroups s
     else output_of (after_job (job_of p s) (at_rest s)))
 
 -- ---- all that a client's connection asks

@@ -19,9 +19,10 @@ pub record WritesText (read : List ℕ) (was is : Option (List ℕ)) (closes : B
   pub written : Appends was is (pipe_text read)
   pub closing : pipe_closes read ≡ closes
 
--- What was written of what was read. `Ended` comes only at the reader's end, and with no closing text; `Closed` only
--- behind one; and before a failed read all was written.
-abbrev pub Answers : Result PipeEnd PipeFault → List ℕ → Option (List ℕ) → Option (List ℕ) → Option (List ℕ) → Type 0
+-- What was written of what was read. `Ended` comes only at the reader's end, and with no closing
+-- text; `Closed` only behind one; and before a failed read all was written.
+abbrev pub Answers : Result PipeEnd PipeFault → List ℕ → Option (List ℕ) → Option (List ℕ)
+    → Option (List ℕ) → Type 0
 Answers (Ok Ended) read left was is = WritesText read was is false × IsAtEnd left
 Answers (Ok Closed) read left was is = WritesText read was is true
 Answers (Err Read) read left was is = WritesText read was is false
@@ -29,7 +30,8 @@ Answers (Err Write) read left was is = AppendsBeginning was is (pipe_text read)
 Answers (Err OutOfMemory) read left was is = AppendsBeginning was is (pipe_text read)
 
 -- the reader gave these bytes, and lost them
-pub record Pipes (result : Result PipeEnd PipeFault) (before left was is : Option (List ℕ)) : Type 0 where
+pub record Pipes (result : Result PipeEnd PipeFault) (before left was is : Option (List ℕ)) :
+    Type 0 where
   pub read : List ℕ
   pub consumed : Consumes before left read
   pub answers : Answers result read left was is
@@ -38,11 +40,13 @@ pub record Pipes (result : Result PipeEnd PipeFault) (before left was is : Optio
 abbrev pub all_reads : ℕ
 all_reads = 2 ^ 64 - 1
 
--- The reader failed just where the answer is `Read`, but where all reads were made. So nothing is read or written behind a
--- failure; and since each read may fail, and then all that is due was written, each read finds all of it written.
+-- The reader failed just where the answer is `Read`, but where all reads were made. So nothing is
+-- read or written behind a failure; and since each read may fail, and then all that is due was
+-- written, each read finds all of it written.
 abbrev pub CountsReads : Result PipeEnd PipeFault → ℕ → ℕ → ℕ → ℕ → Type 0
 CountsReads (Err Read) reads reads_after failures failures_after =
-    (failures_after ≡ failures + 1) ⊎ ((failures_after ≡ failures) × (reads_after ≡ reads + all_reads))
+    (failures_after ≡ failures + 1)
+    ⊎ ((failures_after ≡ failures) × (reads_after ≡ reads + all_reads))
 CountsReads (Err Write) reads reads_after failures failures_after = failures_after ≡ failures
 CountsReads (Err OutOfMemory) reads reads_after failures failures_after = failures_after ≡ failures
 CountsReads (Ok end) reads reads_after failures failures_after = failures_after ≡ failures

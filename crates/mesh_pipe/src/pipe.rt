@@ -42,9 +42,11 @@ pub fn pipe_run<R: Race, S: Source, W: Sink>(
     source: &mut S,
     sink: &mut W,
 ) -> Result<PipeEnd, PipeFault>
-    ensures text { Pipes result (S.remaining source.old) (S.remaining source.new) (W.written sink.old) (W.written sink.new) }
+    ensures text { Pipes result (S.remaining source.old) (S.remaining source.new)
+        (W.written sink.old) (W.written sink.new) }
     ensures most_reads { S.reads source.new ≤ S.reads source.old + all_reads }
-    ensures reads { CountsReads result (S.reads source.old) (S.reads source.new) (S.failures source.old) (S.failures source.new) }
+    ensures reads { CountsReads result (S.reads source.old) (S.reads source.new)
+        (S.failures source.old) (S.failures source.new) }
     ensures writes { CountsFailedWrites result (W.failures sink.old) (W.failures sink.new) }
 {
     let told = info(alloc)?;
@@ -62,9 +64,11 @@ fn serve<R: Race, S: Source, W: Sink>(
 ) -> Result<PipeEnd, PipeFault>
     requires asks { conn.old.asking ≡ first_asking pipe_info }
     requires new { IsNew server.old }
-    ensures text { Pipes result (S.remaining source.old) (S.remaining source.new) (W.written sink.old) (W.written sink.new) }
+    ensures text { Pipes result (S.remaining source.old) (S.remaining source.new)
+        (W.written sink.old) (W.written sink.new) }
     ensures most_reads { S.reads source.new ≤ S.reads source.old + all_reads }
-    ensures reads { CountsReads result (S.reads source.old) (S.reads source.new) (S.failures source.old) (S.failures source.new) }
+    ensures reads { CountsReads result (S.reads source.old) (S.reads source.new)
+        (S.failures source.old) (S.failures source.new) }
     ensures writes { CountsFailedWrites result (W.failures sink.old) (W.failures sink.new) }
 {
     match answer_all(conn, server, sink)? {
@@ -98,7 +102,8 @@ fn answer_all<R: Race, W: Sink>(
 ) -> Result<Flow, PipeFault>
     requires step { IsInStep conn.old server.old }
     requires empty { server.old.output.items ≡ [] }
-    ensures answers { AnswersAll result conn.old server.old (W.written sink.old) conn.new server.new (W.written sink.new) }
+    ensures answers { AnswersAll result conn.old server.old (W.written sink.old) conn.new server.new
+        (W.written sink.new) }
     ensures failures { CountsWrites result (W.failures sink.old) (W.failures sink.new) }
 {
     let flow = work(conn, server, sink)?;
@@ -108,8 +113,10 @@ fn answer_all<R: Race, W: Sink>(
 
 /// Writes what was put.
 fn flush<R: Race, W: Sink>(server: &mut PipeServer<R>, sink: &mut W) -> Result<(), PipeFault>
-    ensures ok { OnOk result (IsFlushed server.old (W.written sink.old) server.new (W.written sink.new)) }
-    ensures err { OnErr result (AppendsFront (W.written sink.old) (W.written sink.new) server.old.output.items) }
+    ensures ok { OnOk result
+        (IsFlushed server.old (W.written sink.old) server.new (W.written sink.new)) }
+    ensures err { OnErr result
+        (AppendsFront (W.written sink.old) (W.written sink.new) server.old.output.items) }
     ensures failures { CountsWrites result (W.failures sink.old) (W.failures sink.new) }
 {
     sink.write_all(server.output())?;
@@ -124,7 +131,8 @@ fn work<R: Race, W: Sink>(
     sink: &mut W,
 ) -> Result<Flow, PipeFault>
     requires { IsInStep conn.old server.old }
-    ensures works { Works result conn.old server.old (W.written sink.old) conn.new server.new (W.written sink.new) }
+    ensures works { Works result conn.old server.old (W.written sink.old) conn.new server.new
+        (W.written sink.new) }
     ensures failures { CountsWrites result (W.failures sink.old) (W.failures sink.new) }
 {
     loop {

@@ -126,7 +126,8 @@ fn only_server(alloc: Global) -> Result<ServerIdentity, AllocError>
 
 /// A server that has just taken its one connection.
 fn new_node<R: Race>(alloc: Global) -> Result<PipeNode<R>, AllocError>
-    ensures { IfOk result (λ node. IsServing node × (shard_in node ≡ at_rest at_first) × (waiting_in node ≡ [])) }
+    ensures { IfOk result (λ node.
+        IsServing node × (shard_in node ≡ at_rest at_first) × (waiting_in node ≡ [])) }
 {
     let mut node = Node::new(alloc, only_server(alloc)?)?;
     match node.attach(SHARD) {
@@ -158,7 +159,8 @@ fn reply<R: Race>(
     requires conn { conn ≡ 1 }
     requires open { is_open 1 (shard_in node.old).clients ≡ true }
     ensures steps { OnOk result (Steps node.old (Reply 1 frame.now) node.new) }
-    ensures shut { IfOk result (λ shut. shut ≡ not (answer_fits (shard_in node.old) 1 (reply_line frame.now))) }
+    ensures shut { IfOk result (λ shut.
+        shut ≡ not (answer_fits (shard_in node.old) 1 (reply_line frame.now))) }
 {
     match node.reply(conn, frame) {
         Ok(closed) => Ok(closed.shut),
@@ -206,7 +208,9 @@ fn subscribe<R: Race>(
 ) -> Result<Result<(), Refusal>, AllocError>
     requires serving { IsServing node.old }
     requires conn { conn ≡ 1 }
-    ensures { IfOk result (λ opened. IsOpened (shard_refusal (shard_in node.old) (Subscribe 1 key sid)) (Subscribe 1 key sid) node.old opened node.new) }
+    ensures { IfOk result (λ opened.
+        IsOpened (shard_refusal (shard_in node.old) (Subscribe 1 key sid)) (Subscribe 1 key sid)
+        node.old opened node.new) }
 {
     match node.subscribe(conn, key, sid) {
         Ok(_) => Ok(Ok(())),
@@ -240,7 +244,9 @@ fn publish<R: Race>(
     requires idle { waiting_in node.old ≡ [] }
     requires none { (shard_in node.old).hand ≡ None }
     requires told { (shard_in node.old).deltas ≡ [] }
-    ensures { IfOk result (λ published. IsPublished (placing_refused publication.now (shard_in node.old)) publication.now node.old published node.new) }
+    ensures { IfOk result (λ published.
+        IsPublished (placing_refused publication.now (shard_in node.old)) publication.now node.old
+        published node.new) }
 {
     queue_names_are_wanted();
     counts_are_open();
@@ -362,7 +368,8 @@ fn take<R: Race>(node: &mut PipeNode<R>, conn: ConnId, out: &mut Vec<u8>) -> Res
     requires conn { conn ≡ 1 }
     requires known { is_known 1 (shard_in node.old).clients ≡ true }
     ensures steps { OnOk result (Steps node.old (Take 1 all_entries) node.new) }
-    ensures text { OnOk result (out.new.items ≡ out.old.items ++ waiting_bytes (shard_in node.old)) }
+    ensures text { OnOk result
+        (out.new.items ≡ out.old.items ++ waiting_bytes (shard_in node.old)) }
 {
     match node.take_bytes(conn, usize::MAX, out) {
         Ok(_) => Ok(()),
@@ -382,7 +389,8 @@ fn take_any<R: Race>(
     requires conn { conn ≡ 1 }
     requires known { is_known 1 (shard_in node.old).clients ≡ true }
     ensures steps { OnOk result (Steps node.old (Take 1 all_entries) node.new) }
-    ensures text { OnOk result (out.new.items ≡ out.old.items ++ waiting_bytes (shard_in node.old)) }
+    ensures text { OnOk result
+        (out.new.items ≡ out.old.items ++ waiting_bytes (shard_in node.old)) }
 {
     if only_line(node).has_nothing_for(conn) {
         return Ok(());
@@ -441,7 +449,8 @@ impl<R: Race> PipeServer<R> {
     /// Does what the connection asks, and takes all that was put for it.
     pub fn serve(&mut self, ask: &ClientAction) -> Result<Outcome, AllocError>
         requires { IsReady self.old }
-        ensures served { IfOk result (λ outcome. HasServed outcome (ask_said ask.now (served_state self.old)) self.old self.new) }
+        ensures served { IfOk result (λ outcome.
+            HasServed outcome (ask_said ask.now (served_state self.old)) self.old self.new) }
         ensures told { IfOk result (λ outcome. MayBeTold outcome ask.now) }
     {
         match ask {
@@ -467,7 +476,9 @@ impl<R: Race> PipeServer<R> {
     /// whether the client was shut instead.
     fn reply(&mut self, frame: &ReplyFrame) -> Result<bool, AllocError>
         requires { IsReady self.old }
-        ensures { IfOk result (λ shut. HasServed (outcome_by shut) (after_event (Reply 1 frame.now) (served_state self.old)) self.old self.new) }
+        ensures { IfOk result (λ shut.
+            HasServed (outcome_by shut) (after_event (Reply 1 frame.now) (served_state self.old))
+            self.old self.new) }
     {
         if let ReplyFrame::Ok = frame {
             self.output.extend_from_slice(self.confirmation.text())?;
@@ -487,7 +498,9 @@ impl<R: Race> PipeServer<R> {
     /// Puts a line, and takes it. Tells whether the client was shut instead.
     fn put_reply(&mut self, frame: &ReplyFrame) -> Result<bool, AllocError>
         requires { IsReady self.old }
-        ensures { IfOk result (λ shut. HasServed (outcome_by shut) (after_event (Reply 1 frame.now) (served_state self.old)) self.old self.new) }
+        ensures { IfOk result (λ shut.
+            HasServed (outcome_by shut) (after_event (Reply 1 frame.now) (served_state self.old))
+            self.old self.new) }
     {
         let shut = reply(&mut self.node, self.conn, frame)?;
         take(&mut self.node, self.conn, &mut self.output)?;
@@ -496,14 +509,16 @@ impl<R: Race> PipeServer<R> {
 
     fn set_headers(&mut self, on: bool)
         requires { IsReady self.old }
-        ensures { HasServed (Outcome.Answered (Ok tt)) (after_event (SetHeaders 1 on) (served_state self.old)) self.old self.new }
+        ensures { HasServed (Outcome.Answered (Ok tt))
+            (after_event (SetHeaders 1 on) (served_state self.old)) self.old self.new }
     {
         set_headers(&mut self.node, self.conn, on);
     }
 
     fn shut(&mut self, text: ErrText) -> Result<(), AllocError>
         requires { IsReady self.old }
-        ensures { OnOk result (HasServed Outcome.Closed (after_event (Shut 1 text) (served_state self.old)) self.old self.new) }
+        ensures { OnOk result (HasServed Outcome.Closed
+            (after_event (Shut 1 text) (served_state self.old)) self.old self.new) }
     {
         shut(&mut self.node, self.conn, text)?;
         take(&mut self.node, self.conn, &mut self.output)?;
@@ -512,7 +527,9 @@ impl<R: Race> PipeServer<R> {
 
     fn subscribe(&mut self, key: &Key, sid: &Sid) -> Result<Outcome, AllocError>
         requires { IsReady self.old }
-        ensures { IfOk result (λ outcome. HasServed outcome (output_of_subscribe key.now sid.now (served_state self.old)) self.old self.new) }
+        ensures { IfOk result (λ outcome.
+            HasServed outcome (output_of_subscribe key.now sid.now (served_state self.old)) self.old
+            self.new) }
     {
         let key = key.try_clone(self.alloc)?;
         let sid = sid.try_clone(self.alloc)?;
@@ -527,7 +544,8 @@ impl<R: Race> PipeServer<R> {
 
     fn unsubscribe(&mut self, sid: &Sid, max: Option<u64>) -> Result<(), AllocError>
         requires { IsReady self.old }
-        ensures { OnOk result (HasServed (Outcome.Answered (Ok tt)) (after_event (Unsubscribe 1 sid.now max) (served_state self.old)) self.old self.new) }
+        ensures { OnOk result (HasServed (Outcome.Answered (Ok tt))
+            (after_event (Unsubscribe 1 sid.now max) (served_state self.old)) self.old self.new) }
     {
         unsubscribe(&mut self.node, self.conn, sid, max);
         collect(&mut self.node)?;
@@ -536,7 +554,9 @@ impl<R: Race> PipeServer<R> {
 
     fn publish(&mut self, publication: &Pub) -> Result<Outcome, AllocError>
         requires { IsReady self.old }
-        ensures { IfOk result (λ outcome. HasServed outcome (output_of_publish publication.now (served_state self.old)) self.old self.new) }
+        ensures { IfOk result (λ outcome.
+            HasServed outcome (output_of_publish publication.now (served_state self.old)) self.old
+            self.new) }
     {
         match publish(&mut self.node, self.conn, publication)? {
             Ok(()) => {

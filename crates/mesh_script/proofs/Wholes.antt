@@ -20,10 +20,22 @@ use Rattle.mesh_script.proofs.Putting.{starts_same, starts_longer, starts_of_put
 use Rattle.mesh_script.proofs.Texts.{lines_behind, run_front}
 
 pub set_up : (script : Script) → is_cluster script.names script.shards ≡ true → IsCluster (cluster_of script)
-set_up script is = record { apart = apart_names script.names (and_true (nat_le (length script.names) MAX_NODES && nat_lt 0 (length script.names) && (nat_le 1 script.shards && nat_le script.shards MAX_SHARDS)) (are_apart script.names) is).1 }
+set_up script is = record {
+  apart =
+      apart_names script.names
+      (and_true
+      (nat_le (length script.names) MAX_NODES && nat_lt 0 (length script.names)
+      && (nat_le 1 script.shards && nat_le script.shards MAX_SHARDS))
+      (are_apart script.names) is).1;
+}
 
-pub broken_play : {T : Type 0} (result : Result T PlayFault) (script : Script) (was is : Option (List ℕ)) → GoesOn → ArePlayedSafely → is_cluster script.names script.shards ≡ true → IsErr result
-    → BreaksOff (first_standing (cluster_of script)) was (steps_ask (cluster_of script) script.names script.steps) is → Plays script result was is
+pub broken_play : {T : Type 0} (result : Result T PlayFault) (script : Script) (was is : Option (List ℕ))
+    → GoesOn
+    → ArePlayedSafely
+    → is_cluster script.names script.shards ≡ true
+    → IsErr result
+    → BreaksOff (first_standing (cluster_of script)) was (steps_ask (cluster_of script) script.names script.steps) is
+    → Plays script result was is
 broken_play result script was is goes safe within err broke =
     let l = cluster_of script in
     let up = set_up script within in
@@ -31,17 +43,32 @@ broken_play result script was is goes safe within err broke =
     let whole = goes l up (steps_ask l script.names script.steps) broke.rest moves.said broke.new.world moves.told in
     let said = moves.said ++ whole.more in
     let text = lines_text (script_lines l said whole.world) in
-    let played : IsPlayed script text = record { said = said; world = whole.world; told = whole.told; text_is = refl } in
+    let played : IsPlayed script text = record {
+      said = said;
+      world = whole.world;
+      told = whole.told;
+      text_is = refl;
+    } in
     let first = lines_text (said_lines 0 moves.said) in
-    let behind = lines_text (said_lines (0 + count_came moves.said) whole.more) ++ lines_text (last_lines l whole.world) in
+    let behind =
+    lines_text (said_lines (0 + count_came moves.said) whole.more) ++ lines_text (last_lines l whole.world) in
     record {
       text = text;
       played = safe script up text played;
-      written = write_failed result was is text err (starts_same (first ++ behind) text was is (run_front l moves.said whole.more whole.world) (starts_longer first behind was is (starts_of_puts [] first broke.new.text was is moves.puts)));
+      written =
+          write_failed result was is text err
+          (starts_same (first ++ behind) text was is (run_front l moves.said whole.more whole.world)
+          (starts_longer first behind was is (starts_of_puts [] first broke.new.text was is moves.puts)));
     }
 
-pub whole_play : {T : Type 0} (result : Result T PlayFault) (script : Script) (new : PlayState) (was is now : Option (List ℕ)) → ArePlayedSafely → is_cluster script.names script.shards ≡ true
-    → Moves (first_standing (cluster_of script)) was (steps_ask (cluster_of script) script.names script.steps) NoMore new is → Finishes result script.names new is now → Plays script result was now
+pub whole_play : {T : Type 0} (result : Result T PlayFault) (script : Script) (new : PlayState)
+    (was is now : Option (List ℕ))
+    → ArePlayedSafely
+    → is_cluster script.names script.shards ≡ true
+    → Moves (first_standing (cluster_of script)) was (steps_ask (cluster_of script) script.names script.steps) NoMore
+    new is
+    → Finishes result script.names new is now
+    → Plays script result was now
 whole_play result script new was is now safe within moves finishes =
     let l = cluster_of script in
     let said = moves.said in
@@ -55,5 +82,7 @@ whole_play result script new was is now safe within moves finishes =
     record {
       text = text;
       played = safe script (set_up script within) text played;
-      written = subst (λ t. Writes result was now t) (sym (lines_behind (said_lines 0 said) (last_lines l new.world))) (writes_behind result first new.text last was is now moves.puts (finishes step));
+      written =
+          subst (λ t. Writes result was now t) (sym (lines_behind (said_lines 0 said) (last_lines l new.world)))
+          (writes_behind result first new.text last was is now moves.puts (finishes step));
     }

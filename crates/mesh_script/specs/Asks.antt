@@ -16,7 +16,8 @@ use Rattle.script_form.specs.declared.steps.Act.{Act}
 use Rattle.script_form.specs.declared.steps.Act.TheVariants as act
 use Rattle.script_form.specs.declared.steps.Step.{Step}
 
--- nothing more; an event, and then what depends on the world before it and on its outcome; or a line that tells of the world, and no event
+-- nothing more; an event, and then what depends on the world before it and on its outcome; or a
+-- line that tells of the world, and no event
 pub data Asks : Type 0 where
   NoMore : Asks
   Ask : (event : Event) (more : World → Outcome → Asks) → Asks
@@ -44,7 +45,8 @@ abbrev pub where_done : Outcome → Asks → Asks
 where_done (Refused why) more = NoMore
 where_done (Done answer) more = more
 
--- the number of the first frame that an event sends in this world: frames are counted from 1, in the whole cluster
+-- the number of the first frame that an event sends in this world: frames are counted from 1, in
+-- the whole cluster
 abbrev pub next_frame : World → ℕ
 next_frame w = suc (length w.sent)
 
@@ -54,15 +56,20 @@ connect_asks b at_b frame = once (OnConnect b at_b frame)
 
 -- a is handed the INFO on its session, and sends the CONNECT before all else
 abbrev pub info_asks : ℕ → ℕ → ℕ → ℕ → ℕ → Asks
-info_asks a b at_a at_b frame = Ask (OnInfo a at_a frame) (λ w outcome. where_done outcome (connect_asks b at_b (next_frame w)))
+info_asks a b at_a at_b frame =
+    Ask (OnInfo a at_a frame) (λ w outcome. where_done outcome (connect_asks b at_b (next_frame w)))
 
 -- b accepts, and sends the INFO
 abbrev pub accept_asks : ℕ → ℕ → ℕ → Asks
-accept_asks a b at_a = Ask (At b Accept) (λ w outcome. where_some (session_in outcome) (λ at_b. info_asks a b at_a at_b (next_frame w)))
+accept_asks a b at_a =
+    Ask (At b Accept)
+    (λ w outcome. where_some (session_in outcome) (λ at_b. info_asks a b at_a at_b (next_frame w)))
 
 -- a dials b
 abbrev pub dial_asks : ℕ → ℕ → Asks
-dial_asks a b = Ask (At a (Dial b)) (λ w outcome. where_some (session_in outcome) (λ at_a. accept_asks a b at_a))
+dial_asks a b =
+    Ask (At a (Dial b))
+    (λ w outcome. where_some (session_in outcome) (λ at_a. accept_asks a b at_a))
 
 -- ---- whether the cluster is settled for a subject
 
@@ -73,7 +80,8 @@ settled_line false = codes "settled no"
 abbrev pub settled_asks : Cluster → List ℕ → Asks
 settled_asks c subject = Say (λ w. settled_line (settled_for c w subject)) NoMore
 
--- ---- a publish that is delivered: behind it the work that is owed of it, and then how many messages that placed
+-- ---- a publish that is delivered: behind it the work that is owed of it, and then how many
+-- messages that placed
 
 abbrev pub delivered_line : ℕ → List ℕ
 delivered_line placed = codes "delivered " ++ decimal placed
@@ -83,7 +91,8 @@ abbrev pub work_asks : List Event → ℕ → Asks
 work_asks [] placed = Say (λ w. delivered_line placed) NoMore
 work_asks (e ∷ es) placed = Ask e (λ w outcome. work_asks es (placed + placed_by outcome))
 
--- the work is that of the world before the publish; none where the cluster was not settled for it, or had no room
+-- the work is that of the world before the publish; none where the cluster was not settled for it,
+-- or had no room
 abbrev pub deliver_asks : Cluster → ℕ → Publication → Asks
 deliver_asks c n p = Ask (At n (Publish p)) (λ w outcome. work_asks (delivery c w n p) 0)
 
@@ -102,7 +111,8 @@ asks_for c (Joins a b) = dial_asks a b
 asks_for c (Tells subject) = settled_asks c subject
 asks_for c (Delivers n p) = deliver_asks c n p
 
--- of the server at place n; a peer's name stands for its place, and one that is not listed for the place of no server
+-- of the server at place n; a peer's name stands for its place, and one that is not listed for the
+-- place of no server
 abbrev pub act_wants : List (List ℕ) → ℕ → Act → Wants
 act_wants names n (act.Start inc) = Once (Start n inc)
 act_wants names n act.Stop = Once (Stop n)
@@ -111,9 +121,11 @@ act_wants names n (act.Sub conn key sid) = Once (At n (OfConn conn (Subscribe ke
 act_wants names n (act.Unsub conn sid max) = Once (At n (OfConn conn (Unsubscribe sid max)))
 act_wants names n (act.SetHeaders conn on) = Once (At n (OfConn conn (SetHeaders on)))
 act_wants names n (act.Detach conn) = Once (At n (OfConn conn Detach))
-act_wants names n (act.Publish conn publication word) = Once (At n (Publish (record { conn = conn; publication = publication; word = word })))
+act_wants names n (act.Publish conn publication word) =
+    Once (At n (Publish (record { conn = conn; publication = publication; word = word })))
 act_wants names n (act.Settled subject) = Tells subject
-act_wants names n (act.Deliver conn publication word) = Delivers n (record { conn = conn; publication = publication; word = word })
+act_wants names n (act.Deliver conn publication word) =
+    Delivers n (record { conn = conn; publication = publication; word = word })
 act_wants names n (act.Receive frame) = Once (Receive n frame)
 act_wants names n (act.Collect shard) = Once (At n (Collect shard))
 act_wants names n (act.Begin shard) = Once (At n (AtShard shard work.Begin))
@@ -143,4 +155,5 @@ and_then (Say line rest) more = Say line (and_then rest more)
 
 abbrev pub steps_ask : Cluster → List (List ℕ) → List Step → Asks
 steps_ask c names [] = NoMore
-steps_ask c names (step ∷ steps) = and_then (asks_for c (step_wants names step)) (steps_ask c names steps)
+steps_ask c names (step ∷ steps) =
+    and_then (asks_for c (step_wants names step)) (steps_ask c names steps)

@@ -14,5 +14,6 @@ pub mod Placing
 pub mod Playing
 -- what is written of a pattern and a subject
 pub mod Matching
--- what a program does that reads a script and plays it, over any reader and writer that tell their bytes
+-- what a program does that reads a script and plays it, over any reader and writer that tell their
+-- bytes
 pub mod Runs

@@ -32,13 +32,21 @@ answer_text None (Some fault) matches = refused_text (codes "subject") (name_fau
 answer_text None None matches = truth_text matches
 
 abbrev pub match_text : List ℕ → List ℕ → List ℕ
-match_text pattern subject = answer_text (pattern_fault pattern) (subject_fault subject) (subject_matches pattern subject)
+match_text pattern subject =
+    answer_text (pattern_fault pattern) (subject_fault subject) (subject_matches pattern subject)
 
--- All of it is written, and the answer says whether it is a refusal; of a failed write, and where memory is wanting, a beginning.
-abbrev pub Matches : {T : Type 0} → Result T MatchFault → List ℕ → List ℕ → Option (List ℕ) → Option (List ℕ) → Type 0
-Matches (Ok x) pattern subject was is = (match_refusal pattern subject ≡ None) × Appends was is (match_text pattern subject)
-Matches (Err (BadPattern fault)) pattern subject was is = (match_refusal pattern subject ≡ Some (BadPattern fault)) × Appends was is (match_text pattern subject)
-Matches (Err (BadSubject fault)) pattern subject was is = (match_refusal pattern subject ≡ Some (BadSubject fault)) × Appends was is (match_text pattern subject)
+-- All of it is written, and the answer says whether it is a refusal; of a failed write, and where
+-- memory is wanting, a beginning.
+abbrev pub Matches : {T : Type 0} → Result T MatchFault → List ℕ → List ℕ → Option (List ℕ)
+    → Option (List ℕ) → Type 0
+Matches (Ok x) pattern subject was is =
+    (match_refusal pattern subject ≡ None) × Appends was is (match_text pattern subject)
+Matches (Err (BadPattern fault)) pattern subject was is =
+    (match_refusal pattern subject ≡ Some (BadPattern fault))
+    × Appends was is (match_text pattern subject)
+Matches (Err (BadSubject fault)) pattern subject was is =
+    (match_refusal pattern subject ≡ Some (BadSubject fault))
+    × Appends was is (match_text pattern subject)
 Matches (Err Write) pattern subject was is = AppendsStart was is (match_text pattern subject)
 Matches (Err OutOfMemory) pattern subject was is = AppendsStart was is (match_text pattern subject)
 

@@ -15,12 +15,14 @@ use Rattle.mesh_script.specs.Told.{Said, Told, script_lines}
 abbrev pub cluster_of : Script → Cluster
 cluster_of script = record { names = script.names; shards = script.shards }
 
--- all that the script asks was told, from the cluster in which all servers are down; and this is written: a line for each
--- outcome and each line that is no event's, then one for each placement, and the last line
+-- all that the script asks was told, from the cluster in which all servers are down; and this is
+-- written: a line for each outcome and each line that is no event's, then one for each placement,
+-- and the last line
 pub record IsPlayed (script : Script) (text : List ℕ) : Type 0 where
   pub said : List Said
   pub world : World
-  pub told : Told (cluster_of script) (new_world (cluster_of script)) (steps_ask (cluster_of script) script.names script.steps) said NoMore world
+  pub told : Told (cluster_of script) (new_world (cluster_of script))
+      (steps_ask (cluster_of script) script.names script.steps) said NoMore world
   pub text_is : text ≡ lines_text (script_lines (cluster_of script) said world)
 
 -- and the headline holds of the lists that it is written of
@@ -38,11 +40,13 @@ pub record AppendsStart (was is : Option (List ℕ)) (text : List ℕ) : Type 0 
   pub whole : front ++ behind ≡ text
 
 -- all of the text was written; where a write failed or memory was wanting, a beginning of it
-abbrev pub Writes : {T : Type 0} → Result T PlayFault → Option (List ℕ) → Option (List ℕ) → List ℕ → Type 0
+abbrev pub Writes : {T : Type 0} → Result T PlayFault → Option (List ℕ) → Option (List ℕ) → List ℕ
+    → Type 0
 Writes (Ok x) was is text = Appends was is text
 Writes (Err fault) was is text = AppendsStart was is text
 
-pub record Plays {T : Type 0} (script : Script) (result : Result T PlayFault) (was is : Option (List ℕ)) : Type 0 where
+pub record Plays {T : Type 0} (script : Script) (result : Result T PlayFault)
+    (was is : Option (List ℕ)) : Type 0 where
   pub text : List ℕ
   pub played : IsPlayedSafely script text
   pub written : Writes result was is text

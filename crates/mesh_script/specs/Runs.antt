@@ -1,4 +1,5 @@
--- What a program does that reads a script and plays it, over any reader and writer that tell their bytes (profile).
+-- What a program does that reads a script and plays it, over any reader and writer that tell their
+-- bytes (profile).
 use Rattle.std.specs.Prelude.{◌≡◌, ℕ, ◌+◌, ◌≤◌, ◌⊎◌, List, [], length, codes, Option, Result, Ok, Err}
 use Rattle.std.specs.Io.KnownBytes.{Appends, Consumes, IsAtEnd}
 use Rattle.subj.specs.declared.limits.TheConstants.{SCRIPT_BYTES}
@@ -19,7 +20,8 @@ IsAllRead read left = IsAtEnd left ⊎ (length read ≡ SCRIPT_BYTES + 1)
 abbrev pub refused_line : ScriptFault → List ℕ
 refused_line fault = refused_text (codes "script") (script_fault_number fault)
 
--- what is to be written of what bytes are as a script: of a script the text of a run, and of all else the refusal
+-- what is to be written of what bytes are as a script: of a script the text of a run, and of all
+-- else the refusal
 abbrev pub IsText : Result Script ScriptFault → List ℕ → Type 0
 IsText (Ok script) text = IsPlayedSafely script text
 IsText (Err fault) text = text ≡ refused_line fault
@@ -32,7 +34,8 @@ pub record Starts (read : List ℕ) (left was is : Option (List ℕ)) : Type 0 w
   pub start : AppendsStart was is text
 
 -- and all of it, where it is a script, or a refusal
-pub record Tells (read : List ℕ) (left was is : Option (List ℕ)) (meaning : Result Script ScriptFault) : Type 0 where
+pub record Tells (read : List ℕ) (left was is : Option (List ℕ))
+    (meaning : Result Script ScriptFault) : Type 0 where
   pub all : IsAllRead read left
   pub means : script_of read ≡ meaning
   pub text : List ℕ
@@ -43,8 +46,10 @@ pub record TellsScript (read : List ℕ) (left was is : Option (List ℕ)) : Typ
   pub script : Script
   pub tells : Tells read left was is (Ok script)
 
--- Nothing is written before all is read. A failed write, and want of memory while a script is played, leave a beginning.
-abbrev pub Answers : {T : Type 0} → Result T RunFault → List ℕ → Option (List ℕ) → Option (List ℕ) → Option (List ℕ) → Type 0
+-- Nothing is written before all is read. A failed write, and want of memory while a script is
+-- played, leave a beginning.
+abbrev pub Answers : {T : Type 0} → Result T RunFault → List ℕ → Option (List ℕ) → Option (List ℕ)
+    → Option (List ℕ) → Type 0
 Answers (Ok x) read left was is = TellsScript read left was is
 Answers (Err (Refused error)) read left was is = Tells read left was is (Err error.fault)
 Answers (Err Read) read left was is = Appends was is []
@@ -52,7 +57,8 @@ Answers (Err Write) read left was is = Starts read left was is
 Answers (Err OutOfMemory) read left was is = Appends was is [] ⊎ Starts read left was is
 
 -- the reader gave these bytes, at most one more than a script has
-pub record RunsScript {T : Type 0} (result : Result T RunFault) (before left was is : Option (List ℕ)) : Type 0 where
+pub record RunsScript {T : Type 0} (result : Result T RunFault)
+    (before left was is : Option (List ℕ)) : Type 0 where
   pub read : List ℕ
   pub few : length read ≤ SCRIPT_BYTES + 1
   pub consumed : Consumes before left read

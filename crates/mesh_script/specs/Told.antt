@@ -11,14 +11,17 @@ pub data Said : Type 0 where
   Came : (outcome : Outcome) → Said
   Line : (text : List ℕ) → Said
 
--- this was told in turn: outcomes of steps of the exact cluster, and lines of its worlds; then this is left to ask, in this world
+-- this was told in turn: outcomes of steps of the exact cluster, and lines of its worlds; then this
+-- is left to ask, in this world
 abbrev pub Told : Cluster → World → Asks → List Said → Asks → World → Type 0
 Told c w asks [] rest w' = (rest ≡ asks) × (w' ≡ w)
 Told c w NoMore (said ∷ more) rest w' = ⊥
-Told c w (Ask e deed) (Came outcome ∷ more) rest w' = (mid : World) × WorldStep c w e outcome mid × Told c mid (deed w outcome) more rest w'
+Told c w (Ask e deed) (Came outcome ∷ more) rest w' =
+    (mid : World) × WorldStep c w e outcome mid × Told c mid (deed w outcome) more rest w'
 Told c w (Ask e deed) (Line text ∷ more) rest w' = ⊥
 Told c w (Say line behind) (Came outcome ∷ more) rest w' = ⊥
-Told c w (Say line behind) (Line text ∷ more) rest w' = (text ≡ line w) × Told c w behind more rest w'
+Told c w (Say line behind) (Line text ∷ more) rest w' =
+    (text ≡ line w) × Told c w behind more rest w'
 
 -- how many of them are of events
 abbrev pub count_came : List Said → ℕ
@@ -29,7 +32,8 @@ count_came (Line text ∷ more) = count_came more
 -- a line each; that of an event has its number, where so many were before
 abbrev pub said_lines : ℕ → List Said → List (List ℕ)
 said_lines before [] = []
-said_lines before (Came outcome ∷ more) = outcome_lines before (outcome ∷ []) ++ said_lines (suc before) more
+said_lines before (Came outcome ∷ more) =
+    outcome_lines before (outcome ∷ []) ++ said_lines (suc before) more
 said_lines before (Line text ∷ more) = text ∷ said_lines before more
 
 -- all that is written of what was told from the start, to this world

@@ -11,13 +11,15 @@
 //! delivery one that is no event's; then one for each message that was placed, and a last line; [`script_run`] reads the script first, and
 //! [`script_world_run`] gives the cluster too.
 //! Beside it, [`match_run`] tells whether one pattern matches one subject. In reading order: `player`, which asks for the events of each
-//! step and makes them, and `output`, which writes lines.
+//! step and makes them, `whole_runs`, which reads a script first, and `output`, which writes lines.
 #![tactic(auto)]
 
 mod faults;
 mod output;
 mod player;
+mod whole_runs;
 
 pub use faults::{MatchFault, PlayFault, RunFault};
 pub use output::match_run;
-pub use player::{play, script_run, script_world_run};
+pub use player::play;
+pub use whole_runs::{script_run, script_world_run};

@@ -78,7 +78,8 @@ impl Output {
 
     /// Writes all that stands to be written.
     pub(crate) fn flush<S: Sink>(&mut self, sink: &mut S) -> Result<(), PlayFault>
-        ensures text { PutsOrStarts result self.old (S.written sink.old) [] self.new (S.written sink.new) }
+        ensures text { PutsOrStarts result self.old (S.written sink.old) [] self.new
+            (S.written sink.new) }
         ensures empty { OnOk result (self.new ≡ []) }
         ensures failures { CountsWrites result (S.failures sink.old) (S.failures sink.new) }
     {
@@ -89,7 +90,8 @@ impl Output {
 
     /// Writes all that stands to be written, if that is much.
     pub(crate) fn flush_much<S: Sink>(&mut self, sink: &mut S) -> Result<(), PlayFault>
-        ensures text { PutsOrStarts result self.old (S.written sink.old) [] self.new (S.written sink.new) }
+        ensures text { PutsOrStarts result self.old (S.written sink.old) [] self.new
+            (S.written sink.new) }
         ensures failures { CountsWrites result (S.failures sink.old) (S.failures sink.new) }
     {
         if self.bytes.len() >= READ_BYTES {
@@ -101,7 +103,8 @@ impl Output {
 
 /// Writes these bytes as one line.
 pub(crate) fn write_line<S: Sink>(alloc: Global, line: &[u8], sink: &mut S) -> Result<(), PlayFault>
-    ensures text { Writes result (S.written sink.old) (S.written sink.new) (line.now ++ codes "\n") }
+    ensures text { Writes result (S.written sink.old) (S.written sink.new)
+        (line.now ++ codes "\n") }
     ensures failures { CountsWrites result (S.failures sink.old) (S.failures sink.new) }
 {
     let mut output = Output::new(alloc);
@@ -117,7 +120,8 @@ pub(crate) fn write_refusal<S: Sink>(
     number: u16,
     sink: &mut S,
 ) -> Result<(), PlayFault>
-    ensures text { Writes result (S.written sink.old) (S.written sink.new) (refused_text what.now number) }
+    ensures text { Writes result (S.written sink.old) (S.written sink.new)
+        (refused_text what.now number) }
     ensures failures { CountsWrites result (S.failures sink.old) (S.failures sink.new) }
 {
     let mut output = Output::new(alloc);
@@ -153,7 +157,8 @@ fn put_two(
     second: &[u8],
     other: u64,
 ) -> Result<(), AllocError>
-    ensures { OnOk result (output.new ≡ output.old ++ (first.now ++ (decimal one ++ (second.now ++ decimal other)))) }
+    ensures { OnOk result
+        (output.new ≡ output.old ++ (first.now ++ (decimal one ++ (second.now ++ decimal other)))) }
 {
     output.put_with(first, one)?;
     output.put_with(second, other)
@@ -219,7 +224,10 @@ pub(crate) fn put_line(
     number: u64,
     outcome: &Outcome,
 ) -> Result<(), AllocError>
-    ensures { OnOk result (output.new ≡ output.old ++ ((decimal number ++ (codes " " ++ outcome_text (outcome_of outcome.now))) ++ codes "\n")) }
+    ensures { OnOk result (output.new
+        ≡ output.old
+        ++ ((decimal number ++ (codes " " ++ outcome_text (outcome_of outcome.now)))
+        ++ codes "\n")) }
 {
     output.put_number(number)?;
     output.put(b" ")?;
@@ -326,7 +334,8 @@ fn put_mode(output: &mut Output, mode: &Mode) -> Result<(), AllocError>
 
 /// What a publication is called.
 fn put_publication(output: &mut Output, id: PubId) -> Result<(), AllocError>
-    ensures { OnOk result (output.new ≡ output.old ++ fields (id.origin ∷ decimal id.inc ∷ decimal id.number ∷ [])) }
+    ensures { OnOk result
+        (output.new ≡ output.old ++ fields (id.origin ∷ decimal id.inc ∷ decimal id.number ∷ [])) }
 {
     put_field(output, id.origin.bytes())?;
     output.put_with(b" ", id.inc.get())?;
@@ -339,7 +348,12 @@ fn put_subscriber(
     known: Known<'_>,
     message: &Message<'_>,
 ) -> Result<(), AllocError>
-    ensures { OnOk result (output.new ≡ output.old ++ fields (name_for (cluster_named known.entry.names.now) message.now.life.node ∷ decimal message.now.conn ∷ sid_for (map life_of known.entry.lives.now) (life_id_of message.now.life) ∷ mode_text message.now.mode.now ∷ [])) }
+    ensures { OnOk result (output.new
+        ≡ output.old
+        ++ fields (name_for (cluster_named known.entry.names.now) message.now.life.node
+        ∷ decimal message.now.conn
+        ∷ sid_for (map life_of known.entry.lives.now) (life_id_of message.now.life)
+        ∷ mode_text message.now.mode.now ∷ [])) }
 {
     put_field(output, name_at(known.names, message.life.node))?;
     output.put_with(b" ", message.conn.get())?;
@@ -354,7 +368,10 @@ fn put_message(
     known: Known<'_>,
     message: &Message<'_>,
 ) -> Result<(), AllocError>
-    ensures { OnOk result (output.new ≡ output.old ++ (placement_line (cluster_named known.entry.names.now) (map life_of known.entry.lives.now) (placement_in message.now) ++ codes "\n")) }
+    ensures { OnOk result (output.new
+        ≡ output.old
+        ++ (placement_line (cluster_named known.entry.names.now) (map life_of known.entry.lives.now)
+        (placement_in message.now) ++ codes "\n")) }
 {
     output.put_with(b"placed ", message.step)?;
     put_publication(output, message.id)?;
@@ -369,7 +386,12 @@ fn put_entry(
     placements: &Placements,
     placed: &Placed,
 ) -> Result<u64, AllocError>
-    ensures { IfOk result (λ count. HasPut count output.old (placements_text (cluster_named known.entry.names.now) (map life_of known.entry.lives.now)) (placement_of (placing_server placements.now.node placements.now.inc) placements.now.step placed.now.conn placed.now.headers placed.now.entry.bytes placed.now.entry.tag) output.new) }
+    ensures { IfOk result (λ count.
+        HasPut count output.old
+        (placements_text (cluster_named known.entry.names.now) (map life_of known.entry.lives.now))
+        (placement_of (placing_server placements.now.node placements.now.inc) placements.now.step
+        placed.now.conn placed.now.headers placed.now.entry.bytes placed.now.entry.tag)
+        output.new) }
 {
     match placed.entry.tag() {
         Tag::Reply => Ok(0),
@@ -401,7 +423,10 @@ fn put_step<S: Sink>(
     before: u64,
     sink: &mut S,
 ) -> Result<u64, PlayFault>
-    ensures text { PutsOrStarts result output.old (S.written sink.old) (placements_text (cluster_named known.entry.names.now) (map life_of known.entry.lives.now) (placements_in placements.now)) output.new (S.written sink.new) }
+    ensures text { PutsOrStarts result output.old (S.written sink.old)
+        (placements_text (cluster_named known.entry.names.now) (map life_of known.entry.lives.now)
+        (placements_in placements.now))
+        output.new (S.written sink.new) }
     ensures count { IfOk result (λ count. count ≡ before + length (placements_in placements.now)) }
     ensures failures { CountsWrites result (S.failures sink.old) (S.failures sink.new) }
 {
@@ -424,7 +449,10 @@ pub(crate) fn put_placements<S: Sink>(
     all: &[Placements],
     sink: &mut S,
 ) -> Result<u64, PlayFault>
-    ensures text { PutsOrStarts result output.old (S.written sink.old) (placements_text (cluster_named known.entry.names.now) (map life_of known.entry.lives.now) (flat_map placements_in all.now)) output.new (S.written sink.new) }
+    ensures text { PutsOrStarts result output.old (S.written sink.old)
+        (placements_text (cluster_named known.entry.names.now) (map life_of known.entry.lives.now)
+        (flat_map placements_in all.now))
+        output.new (S.written sink.new) }
     ensures count { IfOk result (λ count. count ≡ length (flat_map placements_in all.now)) }
     ensures failures { CountsWrites result (S.failures sink.old) (S.failures sink.new) }
 {
@@ -470,7 +498,8 @@ pub fn match_run<S: Sink>(
     subject: &[u8],
     sink: &mut S,
 ) -> Result<(), MatchFault>
-    ensures text { Matches result pattern.now subject.now (S.written sink.old) (S.written sink.new) }
+    ensures text { Matches result pattern.now subject.now (S.written sink.old)
+        (S.written sink.new) }
     ensures failures { CountsMatchWrites result (S.failures sink.old) (S.failures sink.new) }
 {
     if let Some(fault) = Pattern::fault(pattern) {

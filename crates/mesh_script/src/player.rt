@@ -1,9 +1,9 @@
-//! The events of a script are asked for and made in the cluster, and a line is put for each; a script is read and played.
+//! The events of a script are asked for and made in the cluster, and a line is put for each.
 
 ghost use Rattle.world_law.specs.Events as of_world;
 ghost use Rattle.node_law.specs.Events as of_node;
 ghost use Rattle.node_law.specs.declared.events.ConnEvent.TheVariants as for_conn;
-ghost use Rattle.std.specs.Prelude.{◌≡◌, IfOk, Some, [], length, map, OnErr};
+ghost use Rattle.std.specs.Prelude.{◌≡◌, IfOk, Some, [], map};
 ghost use Rattle.std.specs.List.{position};
 ghost use Rattle.std.specs.Str.{bytes_eq};
 ghost use Rattle.node_core.specs.InCode.{own_event_of};
@@ -14,13 +14,9 @@ ghost use Rattle.cluster_world.specs.InCode.{event_of, outcome_of};
 ghost use Rattle.settled_order.specs.Counted.{placed_by as placed_of};
 ghost use Rattle.settled_order.specs.Owed.{delivery as work_behind};
 ghost use Rattle.mesh_script.specs.Played.{CountsWrites, Plays, cluster_of};
-ghost use Rattle.wire_cut.specs.Flow.{Gains};
-ghost use Rattle.mesh_script.specs.Runs.{RunsScript, CountsReads, CountsFailedWrites, HasRead, HasReadSome, ReadsAway, CountsFailedReads, broken_by};
 
-use crate::faults::{PlayFault, RunFault};
-use crate::output::{
-    Known, Output, put_delivered, put_end, put_line, put_placements, put_settled, write_refusal,
-};
+use crate::faults::PlayFault;
+use crate::output::{Known, Output, put_delivered, put_end, put_line, put_placements, put_settled};
 use claim_race::Race;
 use cluster_world::{Event, Outcome, World};
 use node_core::{Answer, ConnEvent, OwnEvent, ShardWork};
@@ -30,8 +26,8 @@ use settled_order::delivery;
 use std::alloc::{AllocError, Global};
 use std::marker::Model;
 use sub_table::SubTable;
-use subj::{ConnId, Failure, Key, NodeId, Pub, SCRIPT_BYTES, Sid, Subject};
-use wire_cut::{Sink, Source};
+use subj::{ConnId, Key, NodeId, Pub, Sid, Subject};
+use wire_cut::Sink;
 
 /// What a step asks of the cluster.
 #[derive(Drop)]
@@ -92,7 +88,9 @@ fn subscribe(
     key: &Key,
     sid: &Sid,
 ) -> Result<ScriptEvents, AllocError>
-    ensures { IfOk result (λ asked. wants_of asked ≡ Once (of_world.At node (of_node.OfConn conn (for_conn.Subscribe key.now sid.now)))) }
+    ensures { IfOk result (λ asked.
+        wants_of asked
+        ≡ Once (of_world.At node (of_node.OfConn conn (for_conn.Subscribe key.now sid.now)))) }
 {
     let key = key.try_clone(alloc)?;
     let sid = sid.try_clone(alloc)?;
@@ -106,14 +104,17 @@ fn unsubscribe(
     sid: &Sid,
     max: Option<u64>,
 ) -> Result<ScriptEvents, AllocError>
-    ensures { IfOk result (λ asked. wants_of asked ≡ Once (of_world.At node (of_node.OfConn conn (for_conn.Unsubscribe sid.now max)))) }
+    ensures { IfOk result (λ asked.
+        wants_of asked
+        ≡ Once (of_world.At node (of_node.OfConn conn (for_conn.Unsubscribe sid.now max)))) }
 {
     let sid = sid.try_clone(alloc)?;
     Ok(of_conn(node, conn, ConnEvent::Unsubscribe { sid, max }))
 }
 
 fn set_headers(node: usize, conn: ConnId, on: bool) -> ScriptEvents
-    ensures { wants_of result ≡ Once (of_world.At node (of_node.OfConn conn (for_conn.SetHeaders on))) }
+    ensures { wants_of result
+        ≡ Once (of_world.At node (of_node.OfConn conn (for_conn.SetHeaders on))) }
 {
     of_conn(node, conn, ConnEvent::SetHeaders { on })
 }
@@ -133,7 +134,10 @@ fn publish(
     publication: &Pub,
     word: u64,
 ) -> Result<ScriptEvents, AllocError>
-    ensures { IfOk result (λ asked. wants_of asked ≡ Once (of_world.At node (of_node.Publish (record { conn = conn; publication = publication.now; word = word })))) }
+    ensures { IfOk result (λ asked.
+        wants_of asked
+        ≡ Once (of_world.At node
+        (of_node.Publish (record { conn = conn; publication = publication.now; word = word })))) }
 {
     let publication = copy_of(publication)?;
     Ok(own(
@@ -152,7 +156,9 @@ fn deliver(
     publication: &Pub,
     word: u64,
 ) -> Result<ScriptEvents, AllocError>
-    ensures { IfOk result (λ asked. wants_of asked ≡ Delivers node (record { conn = conn; publication = publication.now; word = word })) }
+    ensures { IfOk result (λ asked.
+        wants_of asked
+        ≡ Delivers node (record { conn = conn; publication = publication.now; word = word })) }
 {
     let publication = copy_of(publication)?;
     Ok(ScriptEvents::Deliver {
@@ -171,7 +177,8 @@ fn settled(subject: &Subject) -> Result<ScriptEvents, AllocError>
 }
 
 fn take_entries(node: usize, conn: ConnId, count: u64) -> ScriptEvents
-    ensures { wants_of result ≡ Once (of_world.At node (of_node.OfConn conn (for_conn.Take count))) }
+    ensures { wants_of result
+        ≡ Once (of_world.At node (of_node.OfConn conn (for_conn.Take count))) }
 {
     let count = count as usize;
     of_conn(node, conn, ConnEvent::Take { count })
@@ -289,7 +296,12 @@ impl<T: SubTable, R: Race> Model for Player<T, R> {
 
     ghost Value = { PlayState };
 
-    ghost view = { λ p. record { cluster = p.world.cluster; world = p.world.world; number = p.number; text = p.output } };
+    ghost view = { λ p. record {
+      cluster = p.world.cluster;
+      world = p.world.world;
+      number = p.number;
+      text = p.output;
+    } };
 }
 
 /// A server, and its end of a session.
@@ -323,7 +335,8 @@ fn placed_by(outcome: &Outcome) -> u64
 impl<T: SubTable, R: Race> Player<T, R> {
     /// No event was made in the cluster.
     fn new(alloc: Global, world: World<T, R>) -> Player<T, R>
-        ensures { result ≡ record { cluster = world.cluster; world = world.world; number = 0; text = [] } }
+        ensures { result
+            ≡ record { cluster = world.cluster; world = world.world; number = 0; text = [] } }
     {
         Player {
             alloc,
@@ -335,7 +348,8 @@ impl<T: SubTable, R: Race> Player<T, R> {
 
     /// Makes an event, and puts its line.
     fn ask<S: Sink>(&mut self, event: &Event, sink: &mut S) -> Result<Outcome, PlayFault>
-        ensures asks { AsksOne result (event_of event.now) self.old (S.written sink.old) self.new (S.written sink.new) }
+        ensures asks { AsksOne result (event_of event.now) self.old (S.written sink.old) self.new
+            (S.written sink.new) }
         ensures failures { CountsWrites result (S.failures sink.old) (S.failures sink.new) }
     {
         self.output.flush_much(sink)?;
@@ -350,7 +364,8 @@ impl<T: SubTable, R: Race> Player<T, R> {
 
     /// The same of an event that is of no further use.
     fn ask_for<S: Sink>(&mut self, event: Event, sink: &mut S) -> Result<Outcome, PlayFault>
-        ensures asks { AsksOne result (event_of event) self.old (S.written sink.old) self.new (S.written sink.new) }
+        ensures asks { AsksOne result (event_of event) self.old (S.written sink.old) self.new
+            (S.written sink.new) }
         ensures failures { CountsWrites result (S.failures sink.old) (S.failures sink.new) }
     {
         self.ask(&event, sink)
@@ -358,7 +373,8 @@ impl<T: SubTable, R: Race> Player<T, R> {
 
     /// Makes one event, whatever comes of it.
     fn once<S: Sink>(&mut self, event: Event, sink: &mut S) -> Result<(), PlayFault>
-        ensures makes { Makes result self.old (S.written sink.old) (asked_once (event_of event)) self.new (S.written sink.new) }
+        ensures makes { Makes result self.old (S.written sink.old) (asked_once (event_of event))
+            self.new (S.written sink.new) }
         ensures failures { CountsWrites result (S.failures sink.old) (S.failures sink.new) }
     {
         self.ask_for(event, sink)?;
@@ -379,7 +395,8 @@ impl<T: SubTable, R: Race> Player<T, R> {
         frame: usize,
         sink: &mut S,
     ) -> Result<(), PlayFault>
-        ensures makes { Makes result self.old (S.written sink.old) (connect_asks b.node b.session frame) self.new (S.written sink.new) }
+        ensures makes { Makes result self.old (S.written sink.old)
+            (connect_asks b.node b.session frame) self.new (S.written sink.new) }
         ensures failures { CountsWrites result (S.failures sink.old) (S.failures sink.new) }
     {
         let event = Event::OnConnect {
@@ -399,7 +416,8 @@ impl<T: SubTable, R: Race> Player<T, R> {
         frame: usize,
         sink: &mut S,
     ) -> Result<(), PlayFault>
-        ensures makes { Makes result self.old (S.written sink.old) (info_asks a.node b.node a.session b.session frame) self.new (S.written sink.new) }
+        ensures makes { Makes result self.old (S.written sink.old)
+            (info_asks a.node b.node a.session b.session frame) self.new (S.written sink.new) }
         ensures failures { CountsWrites result (S.failures sink.old) (S.failures sink.new) }
     {
         let next = self.next_frame()?;
@@ -417,7 +435,8 @@ impl<T: SubTable, R: Race> Player<T, R> {
 
     /// The server at place `b` accepts; where that is done, the side that dialed is handed the `INFO` that it sends.
     fn accept<S: Sink>(&mut self, a: SessionEnd, b: usize, sink: &mut S) -> Result<(), PlayFault>
-        ensures makes { Makes result self.old (S.written sink.old) (accept_asks a.node b a.session) self.new (S.written sink.new) }
+        ensures makes { Makes result self.old (S.written sink.old) (accept_asks a.node b a.session)
+            self.new (S.written sink.new) }
         ensures failures { CountsWrites result (S.failures sink.old) (S.failures sink.new) }
     {
         let info = self.next_frame()?;
@@ -434,7 +453,8 @@ impl<T: SubTable, R: Race> Player<T, R> {
 
     /// The server at place `a` dials the one at place `b`, and what follows.
     fn join<S: Sink>(&mut self, a: usize, b: usize, sink: &mut S) -> Result<(), PlayFault>
-        ensures makes { Makes result self.old (S.written sink.old) (dial_asks a b) self.new (S.written sink.new) }
+        ensures makes { Makes result self.old (S.written sink.old) (dial_asks a b) self.new
+            (S.written sink.new) }
         ensures failures { CountsWrites result (S.failures sink.old) (S.failures sink.new) }
     {
         let event = Event::At {
@@ -450,7 +470,8 @@ impl<T: SubTable, R: Race> Player<T, R> {
 
     /// Tells whether the cluster is settled for a publication on the subject.
     fn tell_settled<S: Sink>(&mut self, subject: &Subject, sink: &mut S) -> Result<(), PlayFault>
-        ensures makes { Makes result self.old (S.written sink.old) (settled_asks self.old.cluster subject.now) self.new (S.written sink.new) }
+        ensures makes { Makes result self.old (S.written sink.old)
+            (settled_asks self.old.cluster subject.now) self.new (S.written sink.new) }
         ensures failures { CountsWrites result (S.failures sink.old) (S.failures sink.new) }
     {
         self.output.flush_much(sink)?;
@@ -461,7 +482,8 @@ impl<T: SubTable, R: Race> Player<T, R> {
 
     /// Tells how many messages were placed.
     fn tell_placed<S: Sink>(&mut self, placed: u64, sink: &mut S) -> Result<(), PlayFault>
-        ensures makes { Makes result self.old (S.written sink.old) (work_asks [] placed) self.new (S.written sink.new) }
+        ensures makes { Makes result self.old (S.written sink.old) (work_asks [] placed) self.new
+            (S.written sink.new) }
         ensures failures { CountsWrites result (S.failures sink.old) (S.failures sink.new) }
     {
         self.output.flush_much(sink)?;
@@ -471,7 +493,8 @@ impl<T: SubTable, R: Race> Player<T, R> {
 
     /// Makes events in turn, and tells how many messages they placed. Want of memory also stands for more than can be counted.
     fn work<S: Sink>(&mut self, events: &[Event], sink: &mut S) -> Result<(), PlayFault>
-        ensures makes { Makes result self.old (S.written sink.old) (work_asks (map event_of events.now) 0) self.new (S.written sink.new) }
+        ensures makes { Makes result self.old (S.written sink.old)
+            (work_asks (map event_of events.now) 0) self.new (S.written sink.new) }
         ensures failures { CountsWrites result (S.failures sink.old) (S.failures sink.new) }
     {
         let mut placed = 0u64;
@@ -492,7 +515,8 @@ impl<T: SubTable, R: Race> Player<T, R> {
         events: &[Event],
         sink: &mut S,
     ) -> Result<(), PlayFault>
-        ensures makes { MakesBehind result self.old (S.written sink.old) (event_of event.now) (map event_of events.now) self.new (S.written sink.new) }
+        ensures makes { MakesBehind result self.old (S.written sink.old) (event_of event.now)
+            (map event_of events.now) self.new (S.written sink.new) }
         ensures failures { CountsWrites result (S.failures sink.old) (S.failures sink.new) }
     {
         self.ask(event, sink)?;
@@ -507,7 +531,10 @@ impl<T: SubTable, R: Race> Player<T, R> {
         publication: &Pub,
         word: u64,
     ) -> Result<Vec<Event>, AllocError>
-        ensures { IfOk result (λ events. map event_of events.items ≡ work_behind self.now.cluster self.now.world node (record { conn = conn; publication = publication.now; word = word })) }
+        ensures { IfOk result (λ events.
+            map event_of events.items
+            ≡ work_behind self.now.cluster self.now.world node
+            (record { conn = conn; publication = publication.now; word = word })) }
     {
         delivery(self.alloc, &self.world, node, conn, publication, word)
     }
@@ -521,7 +548,10 @@ impl<T: SubTable, R: Race> Player<T, R> {
         word: u64,
         sink: &mut S,
     ) -> Result<(), PlayFault>
-        ensures makes { Makes result self.old (S.written sink.old) (deliver_asks self.old.cluster node (record { conn = conn; publication = publication; word = word })) self.new (S.written sink.new) }
+        ensures makes { Makes result self.old (S.written sink.old)
+            (deliver_asks self.old.cluster node
+            (record { conn = conn; publication = publication; word = word }))
+            self.new (S.written sink.new) }
         ensures failures { CountsWrites result (S.failures sink.old) (S.failures sink.new) }
     {
         let events = self.delivery_of(node, conn, &publication, word)?;
@@ -535,7 +565,8 @@ impl<T: SubTable, R: Race> Player<T, R> {
 
     /// Makes what is asked for.
     fn make_asked<S: Sink>(&mut self, asked: ScriptEvents, sink: &mut S) -> Result<(), PlayFault>
-        ensures makes { Makes result self.old (S.written sink.old) (asks_for self.old.cluster (wants_of asked)) self.new (S.written sink.new) }
+        ensures makes { Makes result self.old (S.written sink.old)
+            (asks_for self.old.cluster (wants_of asked)) self.new (S.written sink.new) }
         ensures failures { CountsWrites result (S.failures sink.old) (S.failures sink.new) }
     {
         match asked {
@@ -558,7 +589,9 @@ impl<T: SubTable, R: Race> Player<T, R> {
         step: &Step,
         sink: &mut S,
     ) -> Result<(), PlayFault>
-        ensures makes { Makes result self.old (S.written sink.old) (asks_for self.old.cluster (step_wants names.now step.now)) self.new (S.written sink.new) }
+        ensures makes { Makes result self.old (S.written sink.old)
+            (asks_for self.old.cluster (step_wants names.now step.now)) self.new
+            (S.written sink.new) }
         ensures failures { CountsWrites result (S.failures sink.old) (S.failures sink.new) }
     {
         let node = place_of(names, step.node);
@@ -568,7 +601,8 @@ impl<T: SubTable, R: Race> Player<T, R> {
 
     /// Puts what was placed, and the last line, and writes all that stands to be written.
     fn finish<S: Sink>(&mut self, names: &[NodeId], sink: &mut S) -> Result<(), PlayFault>
-        ensures text { Finishes result names.now self.old (S.written sink.old) (S.written sink.new) }
+        ensures text { Finishes result names.now self.old (S.written sink.old)
+            (S.written sink.new) }
         ensures failures { CountsWrites result (S.failures sink.old) (S.failures sink.new) }
     {
         let lives = self.world.lives();
@@ -619,7 +653,9 @@ fn make_all<T: SubTable, R: Race, S: Sink>(
     script: &Script,
     sink: &mut S,
 ) -> Result<(), PlayFault>
-    ensures makes { Makes result player.old (S.written sink.old) (steps_ask player.old.cluster script.now.names script.now.steps) player.new (S.written sink.new) }
+    ensures makes { Makes result player.old (S.written sink.old)
+        (steps_ask player.old.cluster script.now.names script.now.steps) player.new
+        (S.written sink.new) }
     ensures failures { CountsWrites result (S.failures sink.old) (S.failures sink.new) }
 {
     for step in script.steps() {
@@ -629,7 +665,7 @@ fn make_all<T: SubTable, R: Race, S: Sink>(
 }
 
 /// Plays a script, as [`play`] does, and gives the cluster behind it.
-fn play_to_end<T: SubTable, R: Race, S: Sink>(
+pub(crate) fn play_to_end<T: SubTable, R: Race, S: Sink>(
     alloc: Global,
     script: &Script,
     sink: &mut S,
@@ -662,98 +698,6 @@ pub fn play<T: SubTable, R: Race, S: Sink>(
     ensures failures { CountsWrites result (S.failures sink.old) (S.failures sink.new) }
 {
     match play_to_end::<T, R, S>(alloc, script, sink) {
-        Ok(_world) => Ok(()),
-        Err(fault) => Err(fault),
-    }
-}
-
-/// How many bytes are read at once at most.
-const CHUNK: usize = 4_096;
-
-/// Reads bytes behind the others, at most as many as there is room for; none is the end.
-fn read_behind<S: Source>(
-    bytes: &mut Vec<u8>,
-    room: &mut [u8],
-    source: &mut S,
-) -> Result<usize, RunFault>
-    ensures ok { IfOk result (λ n. Gains bytes.old.items bytes.new.items (S.remaining source.old) (S.remaining source.new) (length room.old) n) }
-    ensures err { OnErr result (ReadsAway (S.remaining source.old) (S.remaining source.new) (length room.old)) }
-    ensures failures { CountsFailedReads result (S.failures source.old) (S.failures source.new) }
-{
-    let Ok(count) = source.read(room) else {
-        return Err(RunFault::Read);
-    };
-    if bytes.extend_from_slice(&room[..count]).is_err() {
-        return Err(RunFault::OutOfMemory);
-    }
-    Ok(count)
-}
-
-/// Reads all that is left, but at most one byte more than a script has.
-fn read_all<S: Source>(alloc: Global, source: &mut S) -> Result<Vec<u8>, RunFault>
-    ensures ok { IfOk result (λ bytes. HasRead bytes.items (S.remaining source.old) (S.remaining source.new)) }
-    ensures err { OnErr result (HasReadSome (S.remaining source.old) (S.remaining source.new)) }
-    ensures failures { CountsFailedReads result (S.failures source.old) (S.failures source.new) }
-{
-    let mut bytes = Vec::new(alloc);
-    let mut chunk = [0u8; CHUNK];
-    while bytes.len() <= SCRIPT_BYTES {
-        let most = CHUNK.min(SCRIPT_BYTES + 1 - bytes.len());
-        if read_behind(&mut bytes, &mut chunk[..most], source)? == 0 {
-            break;
-        }
-    }
-    Ok(bytes)
-}
-
-/// Why it broke off.
-fn run_fault(fault: PlayFault) -> RunFault
-    ensures { result ≡ broken_by fault }
-{
-    match fault {
-        PlayFault::Write => RunFault::Write,
-        PlayFault::OutOfMemory => RunFault::OutOfMemory,
-    }
-}
-
-/// Reads a script and plays it, as [`script_run`] does, and gives the cluster behind it.
-pub fn script_world_run<T: SubTable, R: Race, I: Source, O: Sink>(
-    alloc: Global,
-    source: &mut I,
-    sink: &mut O,
-) -> Result<World<T, R>, RunFault>
-    ensures text { RunsScript result (I.remaining source.old) (I.remaining source.new) (O.written sink.old) (O.written sink.new) }
-    ensures reads { CountsReads result (I.failures source.old) (I.failures source.new) }
-    ensures writes { CountsFailedWrites result (O.failures sink.old) (O.failures sink.new) }
-{
-    let bytes = read_all(alloc, source)?;
-    match Script::read(alloc, &bytes) {
-        Ok(script) => match play_to_end::<T, R, O>(alloc, &script, sink) {
-            Ok(world) => Ok(world),
-            Err(fault) => Err(run_fault(fault)),
-        },
-        Err(Failure::Refused(error)) => {
-            match write_refusal(alloc, b"script", error.fault.number(), sink) {
-                Ok(()) => Err(RunFault::Refused(error)),
-                Err(fault) => Err(run_fault(fault)),
-            }
-        }
-        Err(Failure::OutOfMemory) => Err(RunFault::OutOfMemory),
-    }
-}
-
-/// Reads a script to the end of its bytes, or up to [`SCRIPT_BYTES`] and one of them, and plays it; of what is no
-/// script, writes `script refused` with the number of its refusal in one line. (Profile.)
-pub fn script_run<T: SubTable, R: Race, I: Source, O: Sink>(
-    alloc: Global,
-    source: &mut I,
-    sink: &mut O,
-) -> Result<(), RunFault>
-    ensures text { RunsScript result (I.remaining source.old) (I.remaining source.new) (O.written sink.old) (O.written sink.new) }
-    ensures reads { CountsReads result (I.failures source.old) (I.failures source.new) }
-    ensures writes { CountsFailedWrites result (O.failures sink.old) (O.failures sink.new) }
-{
-    match script_world_run::<T, R, I, O>(alloc, source, sink) {
         Ok(_world) => Ok(()),
         Err(fault) => Err(fault),
     }

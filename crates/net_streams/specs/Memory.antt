@@ -28,11 +28,23 @@ any_count = 2 ^ 64 - 1
 
 -- a stream that gives nothing yet, takes all, and never fails
 abbrev pub fresh_stream : MemStreamState
-fresh_stream = record { unread = []; has_ended = false; written = []; room = any_count; most = any_count; fails_in = 0; has_failed = false; failed_calls = 0 }
+fresh_stream = record {
+  unread = [];
+  has_ended = false;
+  written = [];
+  room = any_count;
+  most = any_count;
+  fails_in = 0;
+  has_failed = false;
+  failed_calls = 0;
+}
 
 -- one call more is made: it may be the one that fails
 abbrev pub after_call : MemStreamState → MemStreamState
-after_call s = record s { fails_in = s.fails_in - 1; has_failed = s.has_failed || nat_eq s.fails_in 1 }
+after_call s = record s {
+  fails_in = s.fails_in - 1;
+  has_failed = s.has_failed || nat_eq s.fails_in 1;
+}
 
 -- one call more has failed
 abbrev pub after_failure : MemStreamState → MemStreamState
@@ -47,6 +59,7 @@ after_fault Failed s = after_failure s
 abbrev pub Wrote : MemStreamState → Came → MemStreamState → Type 0
 Wrote old came new = (new.written ≡ old.written ++ bytes_in came) × (new.unread ≡ old.unread)
 
--- a read that came to this: its bytes stood in front of the others that were fed, and nothing is written
+-- a read that came to this: its bytes stood in front of the others that were fed, and nothing is
+-- written
 abbrev pub Gave : MemStreamState → Came → MemStreamState → Type 0
 Gave old came new = (old.unread ≡ bytes_in came ++ new.unread) × (new.written ≡ old.written)

@@ -99,7 +99,8 @@ impl MemStream {
 
     /// The other end sends these bytes. Want of memory changes nothing.
     pub fn feed(&mut self, bytes: &[u8]) -> Result<(), AllocError>
-        ensures ok { OnOk result (self.new ≡ record self.old { unread = self.old.unread ++ bytes.now }) }
+        ensures ok { OnOk result
+            (self.new ≡ record self.old { unread = self.old.unread ++ bytes.now }) }
         ensures err { OnErr result (self.new ≡ self.old) }
     {
         self.input.extend_from_slice(bytes)
@@ -156,10 +157,15 @@ impl Stream for MemStream {
     fn read(&mut self, buffer: &mut [u8]) -> Result<usize, StreamFault>
         ensures bound { ReadsAtMost result buffer.new }
         ensures gave { Gave self.old (came_of result buffer.new) self.new }
-        ensures fails { (result ≡ Err StreamFault.Failed) ↔ ((after_call self.old).has_failed ≡ true) }
-        ensures waits { result ≡ Err StreamFault.WouldBlock → (min (min (length self.old.unread) (length buffer.old)) self.old.most ≡ 0) × (self.old.has_ended ≡ false) }
-        ensures count { IfOk result (λ n. n ≡ min (min (length self.old.unread) (length buffer.old)) self.old.most) }
-        ensures ok { IfOk result (λ n. self.new ≡ record (after_call self.old) { unread = drop n self.old.unread }) }
+        ensures fails { (result ≡ Err StreamFault.Failed)
+            ↔ ((after_call self.old).has_failed ≡ true) }
+        ensures waits { result ≡ Err StreamFault.WouldBlock
+            → (min (min (length self.old.unread) (length buffer.old)) self.old.most ≡ 0)
+            × (self.old.has_ended ≡ false) }
+        ensures count { IfOk result (λ n.
+            n ≡ min (min (length self.old.unread) (length buffer.old)) self.old.most) }
+        ensures ok { IfOk result (λ n.
+            self.new ≡ record (after_call self.old) { unread = drop n self.old.unread }) }
         ensures err { IfErr result (λ fault. self.new ≡ after_fault fault (after_call self.old)) }
     {
         if self.fails() {
@@ -179,9 +185,16 @@ impl Stream for MemStream {
         ensures bound { WritesAtMost result bytes.now }
         ensures wrote { Wrote self.old (came_of result bytes.now) self.new }
         ensures fails { (after_call self.old).has_failed ≡ true → result ≡ Err StreamFault.Failed }
-        ensures waits { result ≡ Err StreamFault.WouldBlock → (min (min (length bytes.now) self.old.room) self.old.most ≡ 0) × (0 < length bytes.now) }
-        ensures count { IfOk result (λ n. n ≡ min (min (length bytes.now) self.old.room) self.old.most) }
-        ensures ok { IfOk result (λ n. self.new ≡ record (after_call self.old) { written = self.old.written ++ take n bytes.now; room = self.old.room - n }) }
+        ensures waits { result ≡ Err StreamFault.WouldBlock
+            → (min (min (length bytes.now) self.old.room) self.old.most ≡ 0)
+            × (0 < length bytes.now) }
+        ensures count { IfOk result (λ n.
+            n ≡ min (min (length bytes.now) self.old.room) self.old.most) }
+        ensures ok { IfOk result (λ n.
+            self.new ≡ record (after_call self.old) {
+              written = self.old.written ++ take n bytes.now;
+              room = self.old.room - n;
+            }) }
         ensures err { IfErr result (λ fault. self.new ≡ after_fault fault (after_call self.old)) }
     {
         if self.fails() {

@@ -79,8 +79,10 @@ impl Outgoing {
     /// Writes what the stream takes: a front of the bytes that are unwritten, and the others stay, in order. It stops as
     /// [`Wire::write`] does.
     pub fn write_to<S: Stream>(&mut self, wire: &mut Wire<S>)
-        ensures written { HasWritten S.wrote self.old wire.old.has_failed wire.old.stream self.new wire.new.has_failed wire.new.stream }
-        ensures others { wire.new ≡ record wire.old { stream = wire.new.stream; has_failed = wire.new.has_failed } }
+        ensures written { HasWritten S.wrote self.old wire.old.has_failed wire.old.stream self.new
+            wire.new.has_failed wire.new.stream }
+        ensures others { wire.new
+            ≡ record wire.old { stream = wire.new.stream; has_failed = wire.new.has_failed } }
     {
         let left = wire.write(&self.bytes[self.start..]).len();
         self.start = self.bytes.len() - left;

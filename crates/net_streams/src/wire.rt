@@ -49,7 +49,8 @@ impl<S: Stream> Wire<S> {
     /// The stream itself, to be changed.
     pub fn stream_mut(&mut self) -> &mut S
         ensures stream { result.now ≡ self.old.stream }
-        ensures* writes_back { sem 𝓛 (Lends (the_row S.row) S.row self.entry result (λ w. record self.old { stream = w })) }
+        ensures* writes_back { sem 𝓛
+            (Lends (the_row S.row) S.row self.entry result (λ w. record self.old { stream = w })) }
     {
         &mut self.stream
     }
@@ -81,8 +82,10 @@ impl<S: Stream> Wire<S> {
     /// It stops where nothing is left, where the stream would have to wait, and where it fails; a stream that takes none of some bytes
     /// has failed. Of a stream that has failed before nothing is asked, and all bytes are given back.
     pub fn write<'a>(&mut self, bytes: &'a [u8]) -> &'a [u8]
-        ensures written { HasWritten S.wrote bytes.now self.old.has_failed self.old.stream result.now self.new.has_failed self.new.stream }
-        ensures others { self.new ≡ record self.old { stream = self.new.stream; has_failed = self.new.has_failed } }
+        ensures written { HasWritten S.wrote bytes.now self.old.has_failed self.old.stream
+            result.now self.new.has_failed self.new.stream }
+        ensures others { self.new
+            ≡ record self.old { stream = self.new.stream; has_failed = self.new.has_failed } }
     {
         if self.has_failed {
             return bytes;
@@ -115,7 +118,8 @@ impl<S: Stream> Source for Wire<S> {
         ensures reads { self.new.reads.value ≡ self.old.reads.value + 1 }
         ensures failures { CountsFailure result self.old.failures.value self.new.failures.value }
         ensures ended { self.new.has_ended ≡ ended_after result buffer.new self.old.has_ended }
-        ensures gave { HasRead S.gave buffer.new result self.old.has_failed self.old.stream self.new.has_failed self.new.stream }
+        ensures gave { HasRead S.gave buffer.new result self.old.has_failed self.old.stream
+            self.new.has_failed self.new.stream }
     {
         self.reads.rise();
         match self.stream.read(buffer) {

@@ -20,7 +20,8 @@ use Rattle.node_law.specs.Faults.{node_fault_number}
 abbrev pub own_event_of : OwnEvent → asked.OwnEvent
 own_event_of (own.OfConn conn event) = asked.OfConn conn event
 own_event_of (own.AtShard shard work) = asked.AtShard shard work
-own_event_of (own.Publish conn publication word) = asked.Publish (record { conn = conn; publication = publication; word = word })
+own_event_of (own.Publish conn publication word) =
+    asked.Publish (record { conn = conn; publication = publication; word = word })
 own_event_of (own.Collect shard) = asked.Collect shard
 own_event_of own.Drain = asked.Drain
 own_event_of (own.Dial peer) = asked.Dial peer

@@ -28,17 +28,21 @@ abbrev pub Follows : Bool → Type 0 → Type 0 → Type 0
 Follows true this that = this
 Follows false this that = that
 
--- The events are gone through in order, each with its answer: done, or refused by its first cause, which leaves all as it was. One
--- that meets want of memory is the last.
+-- The events are gone through in order, each with its answer: done, or refused by its first cause,
+-- which leaves all as it was. One that meets want of memory is the last.
 abbrev pub IsRun : Served → List NodeEvent → List (Result Outcome Refused) → Served → Type 0
 IsRun old [] [] new = new ≡ old
 IsRun old [] (r ∷ rs) new = ⊥
 IsRun old (e ∷ es) [] new = ⊥
-IsRun old (e ∷ es) (r ∷ rs) new = (mid : Served) × IsAnswered (refusal old e) (λ did. Does old e did mid) (mid ≡ old) (result_in_code r) × Follows (is_out_of_memory r) ((rs ≡ []) × (new ≡ mid)) (IsRun mid es rs new)
+IsRun old (e ∷ es) (r ∷ rs) new =
+    (mid : Served)
+    × IsAnswered (refusal old e) (λ did. Does old e did mid) (mid ≡ old) (result_in_code r)
+    × Follows (is_out_of_memory r) ((rs ≡ []) × (new ≡ mid)) (IsRun mid es rs new)
 
 -- ---- the promises
 
--- Whatever the server had done before, it did these events since, the newest first, and keeps its promises of all together.
+-- Whatever the server had done before, it did these events since, the newest first, and keeps its
+-- promises of all together.
 pub record GoesOn (events : List NodeEvent) (h : List Done) (s : Served) : Type 0 where
   pub more : List Done
   pub done : map (λ (d : Done). d.event) more ≡ events

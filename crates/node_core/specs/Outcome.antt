@@ -57,7 +57,8 @@ told_of_claim code.Lost = Lost
 told_of_claim (code.Won sub placed ended) = Won sub
 
 -- a step of this event, with what it answers
-pub record Answers (old : Served) (event : NodeEvent) (answer : Answer) (new : Served) : Type 0 where
+pub record Answers (old : Served) (event : NodeEvent) (answer : Answer) (new : Served) :
+    Type 0 where
   pub won : Bool
   pub step : DoesStep old event won new
   pub told : answer ≡ node_answer old.server old.node event won
@@ -70,14 +71,32 @@ pub record Does (old : Served) (event : NodeEvent) (outcome : Outcome) (new : Se
 
 -- what the code tells of it
 abbrev pub did_of : Did → Outcome
-did_of did = record { answer = answer_of did.answer; entries = did.entries.items; frames = did.frames.items; shut = did.shut.items; ended = did.ended.items }
+did_of did = record {
+  answer = answer_of did.answer;
+  entries = did.entries.items;
+  frames = did.frames.items;
+  shut = did.shut.items;
+  ended = did.ended.items;
+}
 
 -- ---- a reply
 
 -- what it comes to
 abbrev pub reply_outcome : ReplyPuts → Bool → List SubId → Outcome
-reply_outcome puts true ended = record { answer = Nothing; entries = puts.last.items; frames = []; shut = puts.shut.items; ended = ended }
-reply_outcome puts false ended = record { answer = Nothing; entries = puts.answer.items; frames = []; shut = []; ended = ended }
+reply_outcome puts true ended = record {
+  answer = Nothing;
+  entries = puts.last.items;
+  frames = [];
+  shut = puts.shut.items;
+  ended = ended;
+}
+reply_outcome puts false ended = record {
+  answer = Nothing;
+  entries = puts.answer.items;
+  frames = [];
+  shut = [];
+  ended = ended;
+}
 
 -- ---- a claim
 
@@ -93,4 +112,10 @@ ended_told code.Lost = []
 ended_told (code.Won sub placed ended) = option_to_list ended
 
 abbrev pub claim_outcome : Claimed → Outcome
-claim_outcome claimed = record { answer = told_of_claim claimed; entries = entries_told claimed; frames = []; shut = []; ended = ended_told claimed }
+claim_outcome claimed = record {
+  answer = told_of_claim claimed;
+  entries = entries_told claimed;
+  frames = [];
+  shut = [];
+  ended = ended_told claimed;
+}

@@ -45,7 +45,9 @@ abbrev pub failure_of_session : Failure SessionFault → Failure NodeFault
 failure_of_session (Refused why) = Refused (Session why)
 failure_of_session OutOfMemory = OutOfMemory
 
-abbrev pub of_session_answer : {X : Type 0} → Result X (Failure SessionFault) → Result X (Failure NodeFault)
+abbrev pub of_session_answer : {X : Type 0}
+    → Result X (Failure SessionFault)
+    → Result X (Failure NodeFault)
 of_session_answer (Ok x) = Ok x
 of_session_answer (Err why) = Err (failure_of_session why)
 
@@ -69,7 +71,10 @@ pub record Served : Type 0 where
 
 -- a server with these parts
 abbrev pub served_of_parts : HubWithSessions → RaceState → List ShardWithJobs → Served
-served_of_parts side race lines = record { server = side.server; node = record { hub = side.hub; sessions = side.sessions; race = race; lines = lines } }
+served_of_parts side race lines = record {
+  server = side.server;
+  node = record { hub = side.hub; sessions = side.sessions; race = race; lines = lines };
+}
 
 -- a server that has just started
 abbrev pub new_server : ServerIdentity → Served
@@ -109,21 +114,26 @@ pub record IsKept (s : Served) : Type 0 where
 -- ---- what the calls do
 
 -- the call of a connection, with the answer of its shard
-pub record ConnStep (old : Served) (conn : ℕ) (event : ConnEvent) (answer : of_shard.Answer) (new : Served) : Type 0 where
+pub record ConnStep (old : Served) (conn : ℕ) (event : ConnEvent) (answer : of_shard.Answer)
+    (new : Served) : Type 0 where
   pub step : DoesStep old (Own (OfConn conn event)) false new
-  pub answered : Some answer ≡ answer_at (Some (conn_event conn event)) (conn_line old.server old.node conn)
+  pub answered :
+      Some answer ≡ answer_at (Some (conn_event conn event)) (conn_line old.server old.node conn)
 
 -- the call of a shard, with its answer
-pub record WorkStep (old : Served) (shard : ℕ) (work : ShardWork) (won : Bool) (answer : of_shard.Answer) (new : Served) : Type 0 where
+pub record WorkStep (old : Served) (shard : ℕ) (work : ShardWork) (won : Bool)
+    (answer : of_shard.Answer) (new : Served) : Type 0 where
   pub step : DoesStep old (Own (AtShard shard work)) won new
   pub answered : Some answer ≡ work_answer work won (shard_line old.node shard)
 
 -- what a begin answers, of the line's shard before it
 abbrev pub IsToldAt : Bool → Option ShardWithJobs → Begun → Type 0
 IsToldAt copies None begun = ⊥
-IsToldAt copies (Some line) begun = (job : Job) × (first_of line.waiting ≡ Some job) × IsTold copies line.shard job begun
+IsToldAt copies (Some line) begun =
+    (job : Job) × (first_of line.waiting ≡ Some job) × IsTold copies line.shard job begun
 
-pub record BeginStep (copies : Bool) (old : Served) (shard : ℕ) (begun : Begun) (new : Served) : Type 0 where
+pub record BeginStep (copies : Bool) (old : Served) (shard : ℕ) (begun : Begun) (new : Served) :
+    Type 0 where
   pub step : DoesStep old (Own (AtShard shard Begin)) false new
   pub told : IsToldAt copies (shard_line old.node shard) begun
 
@@ -143,7 +153,8 @@ pub record CutStep (old : Served) (session : ℕ) (peer : Option ℕ) (new : Ser
   pub answered : peer ≡ peer_of_session session old.node.sessions.standing
 
 -- the first frames that waited
-pub record FramesStep (old : Served) (peer count : ℕ) (frames : List Frame) (new : Served) : Type 0 where
+pub record FramesStep (old : Served) (peer count : ℕ) (frames : List Frame) (new : Served) :
+    Type 0 where
   pub step : DoesStep old (Own (TakeFrames peer count)) false new
   pub answered : frames ≡ first_frames old.node.hub peer count
 
@@ -161,19 +172,26 @@ abbrev pub IsClaimToldAt : Bool → Claimed → Option of_shard.Answer → Type 
 IsClaimToldAt copies claimed None = ⊥
 IsClaimToldAt copies claimed (Some answer) = IsClaimTold copies claimed answer
 
-pub record ClaimStep (copies : Bool) (old : Served) (shard index : ℕ) (claimed : Claimed) (new : Served) : Type 0 where
+pub record ClaimStep (copies : Bool) (old : Served) (shard index : ℕ) (claimed : Claimed)
+    (new : Served) : Type 0 where
   pub step : DoesStep old (Own (AtShard shard (Claim index))) (is_won claimed) new
-  pub told : IsClaimToldAt copies claimed (work_answer (Claim index) (is_won claimed) (shard_line old.node shard))
+  pub told : IsClaimToldAt copies claimed
+      (work_answer (Claim index) (is_won claimed) (shard_line old.node shard))
 
 -- the session that the new one took the place of, and the CONNECT to send
-pub record InfoStep (old : Served) (session : ℕ) (info : Info) (instead_of : Option ℕ) (connect : Connect) (new : Served) : Type 0 where
+pub record InfoStep (old : Served) (session : ℕ) (info : Info) (instead_of : Option ℕ)
+    (connect : Connect) (new : Served) : Type 0 where
   pub step : DoesStep old (OnInfo session info) false new
-  pub instead : instead_of ≡ number_kept (place old.server info.server_name) old.node.sessions.standing
-  pub sent : connect ≡ own_connect old.server info (serial_of (session_at session old.node.sessions.standing))
+  pub instead :
+      instead_of ≡ number_kept (place old.server info.server_name) old.node.sessions.standing
+  pub sent : connect
+      ≡ own_connect old.server info (serial_of (session_at session old.node.sessions.standing))
 
-pub record ConnectStep (old : Served) (session : ℕ) (connect : Connect) (instead_of : Option ℕ) (new : Served) : Type 0 where
+pub record ConnectStep (old : Served) (session : ℕ) (connect : Connect) (instead_of : Option ℕ)
+    (new : Served) : Type 0 where
   pub step : DoesStep old (OnConnect session connect) false new
-  pub instead : instead_of ≡ number_kept (place old.server connect.server_name) old.node.sessions.standing
+  pub instead :
+      instead_of ≡ number_kept (place old.server connect.server_name) old.node.sessions.standing
 
 -- ---- what is told
 
@@ -182,21 +200,27 @@ told_of_received (Routed turn) = answer.Routed turn
 told_of_received (Heard mark) = answer.Heard mark
 
 -- the turn, and how many frames were put
-pub record PublishStep (old : Served) (p : Publication) (turn frames : ℕ) (new : Served) : Type 0 where
+pub record PublishStep (old : Served) (p : Publication) (turn frames : ℕ) (new : Served) :
+    Type 0 where
   pub step : DoesStep old (Own (Publish p)) false new
   pub answered : answer.Issued turn frames ≡ node_answer old.server old.node (Own (Publish p)) false
 
 -- the turn of a message, or the mark of news
-pub record ReceiveStep (old : Served) (frame : Frame) (received : Received) (new : Served) : Type 0 where
+pub record ReceiveStep (old : Served) (frame : Frame) (received : Received) (new : Served) :
+    Type 0 where
   pub step : DoesStep old (Receive frame) false new
   pub answered : told_of_received received ≡ node_answer old.server old.node (Receive frame) false
 
 -- how many changes, how many frames were put, and the peers cut
-pub record CollectStep (old : Served) (shard changes frames : ℕ) (cut : List ℕ) (new : Served) : Type 0 where
+pub record CollectStep (old : Served) (shard changes frames : ℕ) (cut : List ℕ) (new : Served) :
+    Type 0 where
   pub step : DoesStep old (Own (Collect shard)) false new
-  pub answered : answer.Collected changes frames cut ≡ node_answer old.server old.node (Own (Collect shard)) false
+  pub answered : answer.Collected changes frames cut
+      ≡ node_answer old.server old.node (Own (Collect shard)) false
 
 -- the same of a drain
-pub record DrainStep (old : Served) (changes frames : ℕ) (cut : List ℕ) (new : Served) : Type 0 where
+pub record DrainStep (old : Served) (changes frames : ℕ) (cut : List ℕ) (new : Served) :
+    Type 0 where
   pub step : DoesStep old (Own Drain) false new
-  pub answered : answer.Collected changes frames cut ≡ node_answer old.server old.node (Own Drain) false
+  pub answered :
+      answer.Collected changes frames cut ≡ node_answer old.server old.node (Own Drain) false

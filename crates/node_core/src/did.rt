@@ -36,7 +36,13 @@ impl Did {
         shut: Vec<ConnId>,
         ended: Vec<SubId>,
     ) -> Did
-        ensures { did_of result ≡ record { answer = answer_of answer; entries = entries.items; frames = []; shut = shut.items; ended = ended.items } }
+        ensures { did_of result ≡ record {
+          answer = answer_of answer;
+          entries = entries.items;
+          frames = [];
+          shut = shut.items;
+          ended = ended.items;
+        } }
     {
         Did {
             answer,
@@ -49,14 +55,26 @@ impl Did {
 
     /// Of an event for which nothing is put and nothing closes. Takes no memory.
     pub(crate) fn answer_alone(alloc: Global, answer: Answer) -> Did
-        ensures { did_of result ≡ record { answer = answer_of answer; entries = []; frames = []; shut = []; ended = [] } }
+        ensures { did_of result ≡ record {
+          answer = answer_of answer;
+          entries = [];
+          frames = [];
+          shut = [];
+          ended = [];
+        } }
     {
         Did::of_frames(alloc, answer, Vec::new(alloc))
     }
 
     /// Of an event for which these frames are put or sent, and nothing closes. Takes no memory.
     pub(crate) fn of_frames(alloc: Global, answer: Answer, frames: Vec<RouteFrame>) -> Did
-        ensures { did_of result ≡ record { answer = answer_of answer; entries = []; frames = frames.items; shut = []; ended = [] } }
+        ensures { did_of result ≡ record {
+          answer = answer_of answer;
+          entries = [];
+          frames = frames.items;
+          shut = [];
+          ended = [];
+        } }
     {
         Did {
             answer,

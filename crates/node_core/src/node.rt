@@ -17,6 +17,7 @@ ghost use Rattle.node_core.specs.OneRun.{GoesOn, IsRun, done_with, is_out_of_mem
 ghost use Rattle.node_law.specs.Runs.{Done, Ran};
 ghost use Rattle.node_core.specs.TakesBytes.{TakesBytes};
 
+mod asked;
 mod resting;
 mod stepping;
 
@@ -140,7 +141,9 @@ impl<T: SubTable, R: Race> Node<T, R> {
         key: Key,
         sid: Sid,
     ) -> Result<Subscribed, Failure<NodeFault>>
-        ensures { IsAnswered (refusal self.old (Own (OfConn conn (Subscribe key sid)))) (λ done. ConnStep self.old conn (Subscribe key sid) (answer_of done) self.new) (self.new ≡ self.old) result }
+        ensures { IsAnswered (refusal self.old (Own (OfConn conn (Subscribe key sid))))
+            (λ done. ConnStep self.old conn (Subscribe key sid) (answer_of done) self.new)
+            (self.new ≡ self.old) result }
     {
         let Some(place) = place_of_conn(self.lines.len(), conn) else {
             return Err(Failure::Refused(NodeFault::Shard(ShardFault::NoConn)));
@@ -156,7 +159,11 @@ impl<T: SubTable, R: Race> Node<T, R> {
         sid: &Sid,
         max: Option<u64>,
     ) -> Result<Option<SubId>, NodeFault>
-        ensures { IsDecided (refusal self.old (Own (OfConn conn (Unsubscribe sid.now max)))) (λ ended. ConnStep self.old conn (Unsubscribe sid.now max) (Unsubscribed (option_to_list ended)) self.new) (self.new ≡ self.old) result }
+        ensures { IsDecided (refusal self.old (Own (OfConn conn (Unsubscribe sid.now max))))
+            (λ ended.
+            ConnStep self.old conn (Unsubscribe sid.now max) (Unsubscribed (option_to_list ended))
+            self.new)
+            (self.new ≡ self.old) result }
     {
         let Some(place) = place_of_conn(self.lines.len(), conn) else {
             return Err(NodeFault::Shard(ShardFault::NoConn));
@@ -167,7 +174,11 @@ impl<T: SubTable, R: Race> Node<T, R> {
 
     /// Puts an answer for a connection: [`ShardWithJobs::reply`].
     pub fn reply(&mut self, conn: ConnId, frame: &ReplyFrame) -> Result<Closed, Failure<NodeFault>>
-        ensures { IsAnswered (refusal self.old (Own (OfConn conn (Reply frame.now)))) (λ closed. ConnStep self.old conn (Reply frame.now) (Replied closed.shut closed.ended.items) self.new) (self.new ≡ self.old) result }
+        ensures { IsAnswered (refusal self.old (Own (OfConn conn (Reply frame.now))))
+            (λ closed.
+            ConnStep self.old conn (Reply frame.now) (Replied closed.shut closed.ended.items)
+            self.new)
+            (self.new ≡ self.old) result }
     {
         let Some(place) = place_of_conn(self.lines.len(), conn) else {
             return Err(Failure::Refused(NodeFault::Shard(ShardFault::NoConn)));
@@ -178,7 +189,9 @@ impl<T: SubTable, R: Race> Node<T, R> {
 
     /// Sets whether a connection takes headers from now on: [`ShardWithJobs::set_headers`]. Takes no memory.
     pub fn set_headers(&mut self, conn: ConnId, on: bool) -> Result<(), NodeFault>
-        ensures { IsDecided (refusal self.old (Own (OfConn conn (SetHeaders on)))) (λ _. ConnStep self.old conn (SetHeaders on) HeadersSet self.new) (self.new ≡ self.old) result }
+        ensures { IsDecided (refusal self.old (Own (OfConn conn (SetHeaders on))))
+            (λ _. ConnStep self.old conn (SetHeaders on) HeadersSet self.new) (self.new ≡ self.old)
+            result }
     {
         let Some(place) = place_of_conn(self.lines.len(), conn) else {
             return Err(NodeFault::Shard(ShardFault::NoConn));
@@ -189,7 +202,9 @@ impl<T: SubTable, R: Race> Node<T, R> {
 
     /// Shuts a connection with this text: [`ShardWithJobs::shut`].
     pub fn shut(&mut self, conn: ConnId, text: ErrText) -> Result<Vec<SubId>, Failure<NodeFault>>
-        ensures { IsAnswered (refusal self.old (Own (OfConn conn (Shut text)))) (λ ended. ConnStep self.old conn (Shut text) (WasShut ended.items) self.new) (self.new ≡ self.old) result }
+        ensures { IsAnswered (refusal self.old (Own (OfConn conn (Shut text))))
+            (λ ended. ConnStep self.old conn (Shut text) (WasShut ended.items) self.new)
+            (self.new ≡ self.old) result }
     {
         let Some(place) = place_of_conn(self.lines.len(), conn) else {
             return Err(Failure::Refused(NodeFault::Shard(ShardFault::NoConn)));
@@ -200,7 +215,9 @@ impl<T: SubTable, R: Race> Node<T, R> {
 
     /// The connection goes: [`ShardWithJobs::detach`].
     pub fn detach(&mut self, conn: ConnId) -> Result<Vec<SubId>, Failure<NodeFault>>
-        ensures { IsAnswered (refusal self.old (Own (OfConn conn Detach))) (λ ended. ConnStep self.old conn Detach (Detached ended.items) self.new) (self.new ≡ self.old) result }
+        ensures { IsAnswered (refusal self.old (Own (OfConn conn Detach)))
+            (λ ended. ConnStep self.old conn Detach (Detached ended.items) self.new)
+            (self.new ≡ self.old) result }
     {
         let Some(place) = place_of_conn(self.lines.len(), conn) else {
             return Err(Failure::Refused(NodeFault::Shard(ShardFault::NoConn)));
@@ -211,7 +228,9 @@ impl<T: SubTable, R: Race> Node<T, R> {
 
     /// Gives and removes the first entries that wait for a connection: [`ShardWithJobs::take`].
     pub fn take(&mut self, conn: ConnId, count: usize) -> Result<Vec<Entry>, Failure<NodeFault>>
-        ensures { IsAnswered (refusal self.old (Own (OfConn conn (Take count)))) (λ entries. ConnStep self.old conn (Take count) (Taken entries.items) self.new) (self.new ≡ self.old) result }
+        ensures { IsAnswered (refusal self.old (Own (OfConn conn (Take count))))
+            (λ entries. ConnStep self.old conn (Take count) (Taken entries.items) self.new)
+            (self.new ≡ self.old) result }
     {
         let Some(place) = place_of_conn(self.lines.len(), conn) else {
             return Err(Failure::Refused(NodeFault::Shard(ShardFault::NoConn)));
@@ -223,7 +242,9 @@ impl<T: SubTable, R: Race> Node<T, R> {
     /// A new connection of the shard. Refused with [`NodeFault::NoShard`] where there is no such shard,
     /// and as [`ShardWithJobs::attach`] is.
     pub fn attach(&mut self, shard: u64) -> Result<ConnId, Failure<NodeFault>>
-        ensures { IsAnswered (refusal self.old (Own (AtShard shard Attach))) (λ conn. WorkStep self.old shard Attach false (Attached conn) self.new) (self.new ≡ self.old) result }
+        ensures { IsAnswered (refusal self.old (Own (AtShard shard Attach)))
+            (λ conn. WorkStep self.old shard Attach false (Attached conn) self.new)
+            (self.new ≡ self.old) result }
     {
         let Some(place) = place_of_shard(self.lines.len(), shard) else {
             return Err(Failure::Refused(NodeFault::NoShard));
@@ -235,7 +256,8 @@ impl<T: SubTable, R: Race> Node<T, R> {
     /// The shard begins the first job that waits for it: [`ShardWithJobs::begin`]. Refused with
     /// [`NodeFault::NoShard`] first.
     pub fn begin(&mut self, shard: u64, copies: bool) -> Result<Begun, Failure<NodeFault>>
-        ensures { IsAnswered (refusal self.old (Own (AtShard shard Begin))) (λ begun. BeginStep copies self.old shard begun self.new) (self.new ≡ self.old) result }
+        ensures { IsAnswered (refusal self.old (Own (AtShard shard Begin)))
+            (λ begun. BeginStep copies self.old shard begun self.new) (self.new ≡ self.old) result }
     {
         let Some(place) = place_of_shard(self.lines.len(), shard) else {
             return Err(Failure::Refused(NodeFault::NoShard));
@@ -252,7 +274,9 @@ impl<T: SubTable, R: Race> Node<T, R> {
         index: u64,
         copies: bool,
     ) -> Result<Claimed, Failure<NodeFault>>
-        ensures { IsAnswered (refusal self.old (Own (AtShard shard (Claim index)))) (λ claimed. ClaimStep copies self.old shard index claimed self.new) (self.new ≡ self.old) result }
+        ensures { IsAnswered (refusal self.old (Own (AtShard shard (Claim index))))
+            (λ claimed. ClaimStep copies self.old shard index claimed self.new)
+            (self.new ≡ self.old) result }
     {
         let Some(place) = place_of_shard(self.lines.len(), shard) else {
             return Err(Failure::Refused(NodeFault::NoShard));
@@ -264,7 +288,9 @@ impl<T: SubTable, R: Race> Node<T, R> {
     /// The shard finishes the turn in hand: [`ShardWithJobs::end`]. Refused with [`NodeFault::NoShard`] first.
     /// Takes no memory.
     pub fn end(&mut self, shard: u64) -> Result<(), NodeFault>
-        ensures { IsDecided (refusal self.old (Own (AtShard shard End))) (λ _. WorkStep self.old shard End false Finished self.new) (self.new ≡ self.old) result }
+        ensures { IsDecided (refusal self.old (Own (AtShard shard End)))
+            (λ _. WorkStep self.old shard End false Finished self.new) (self.new ≡ self.old)
+            result }
     {
         let Some(place) = place_of_shard(self.lines.len(), shard) else {
             return Err(NodeFault::NoShard);
@@ -282,7 +308,8 @@ impl<T: SubTable, R: Race> Node<T, R> {
     /// The shard drops the job in hand, or else the first that waits, and its turn is finished:
     /// [`ShardWithJobs::drop_job`]. Gives that turn. Refused with [`NodeFault::NoShard`] first. Takes no memory.
     pub fn drop_job(&mut self, shard: u64) -> Result<Turn, NodeFault>
-        ensures { IsDecided (refusal self.old (Own (AtShard shard DropJob))) (λ turn. DropStep self.old shard turn self.new) (self.new ≡ self.old) result }
+        ensures { IsDecided (refusal self.old (Own (AtShard shard DropJob)))
+            (λ turn. DropStep self.old shard turn self.new) (self.new ≡ self.old) result }
     {
         let Some(place) = place_of_shard(self.lines.len(), shard) else {
             return Err(NodeFault::NoShard);
@@ -300,7 +327,9 @@ impl<T: SubTable, R: Race> Node<T, R> {
     /// The shard takes no subscription any more: [`ShardWithJobs::drain`]. Refused with [`NodeFault::NoShard`] first.
     /// Takes no memory.
     pub fn drain_shard(&mut self, shard: u64) -> Result<(), NodeFault>
-        ensures { IsDecided (refusal self.old (Own (AtShard shard DrainShard))) (λ _. WorkStep self.old shard DrainShard false Drains self.new) (self.new ≡ self.old) result }
+        ensures { IsDecided (refusal self.old (Own (AtShard shard DrainShard)))
+            (λ _. WorkStep self.old shard DrainShard false Drains self.new) (self.new ≡ self.old)
+            result }
     {
         let Some(place) = place_of_shard(self.lines.len(), shard) else {
             return Err(NodeFault::NoShard);
@@ -311,14 +340,16 @@ impl<T: SubTable, R: Race> Node<T, R> {
 
     /// Dials the server at this place: [`HubWithSessions::dial`]. Gives the number of the session.
     pub fn dial(&mut self, peer: usize) -> Result<SessionId, Failure<NodeFault>>
-        ensures { IsAnswered (refusal self.old (Own (Dial peer))) (λ session. DialStep self.old peer session self.new) (self.new ≡ self.old) result }
+        ensures { IsAnswered (refusal self.old (Own (Dial peer)))
+            (λ session. DialStep self.old peer session self.new) (self.new ≡ self.old) result }
     {
         of_sessions(self.side.dial(peer))
     }
 
     /// Accepts a session: [`HubWithSessions::accept`]. Gives its number, and the `INFO` to send.
     pub fn accept(&mut self) -> Result<(SessionId, RouteInfo), Failure<NodeFault>>
-        ensures { IsAnswered (refusal self.old (Own Accept)) (λ given. AcceptStep self.old given.0 given.1 self.new) (self.new ≡ self.old) result }
+        ensures { IsAnswered (refusal self.old (Own Accept))
+            (λ given. AcceptStep self.old given.0 given.1 self.new) (self.new ≡ self.old) result }
     {
         of_sessions(self.side.accept())
     }
@@ -326,7 +357,8 @@ impl<T: SubTable, R: Race> Node<T, R> {
     /// Ends a session; where it was kept, its peer is not up any more. Gives the place of that peer.
     /// Refused as [`HubWithSessions::cut`] is. Takes no memory.
     pub fn cut(&mut self, session: SessionId) -> Result<Option<usize>, NodeFault>
-        ensures { IsDecided (refusal self.old (Own (CutSession session))) (λ peer. CutStep self.old session peer self.new) (self.new ≡ self.old) result }
+        ensures { IsDecided (refusal self.old (Own (CutSession session)))
+            (λ peer. CutStep self.old session peer self.new) (self.new ≡ self.old) result }
     {
         of_decision(self.side.cut(session))
     }
@@ -339,7 +371,9 @@ impl<T: SubTable, R: Race> Node<T, R> {
         session: SessionId,
         info: &RouteInfo,
     ) -> Result<(Kept, RouteConnect), Failure<NodeFault>>
-        ensures { IsAnswered (refusal self.old (OnInfo session info.now)) (λ done. InfoStep self.old session info.now done.0.instead_of done.1 self.new) (self.new ≡ self.old) result }
+        ensures { IsAnswered (refusal self.old (OnInfo session info.now))
+            (λ done. InfoStep self.old session info.now done.0.instead_of done.1 self.new)
+            (self.new ≡ self.old) result }
     {
         of_sessions(self.side.info(session, info))
     }
@@ -352,7 +386,9 @@ impl<T: SubTable, R: Race> Node<T, R> {
         session: SessionId,
         connect: &RouteConnect,
     ) -> Result<Kept, Failure<NodeFault>>
-        ensures { IsAnswered (refusal self.old (OnConnect session connect.now)) (λ kept. ConnectStep self.old session connect.now kept.instead_of self.new) (self.new ≡ self.old) result }
+        ensures { IsAnswered (refusal self.old (OnConnect session connect.now))
+            (λ kept. ConnectStep self.old session connect.now kept.instead_of self.new)
+            (self.new ≡ self.old) result }
     {
         of_sessions(self.side.connect(session, connect))
     }
@@ -363,7 +399,9 @@ impl<T: SubTable, R: Race> Node<T, R> {
         peer: usize,
         count: usize,
     ) -> Result<Vec<Numbered>, Failure<NodeFault>>
-        ensures { IsAnswered (refusal self.old (Own (TakeFrames peer count))) (λ frames. FramesStep self.old peer count frames.items self.new) (self.new ≡ self.old) result }
+        ensures { IsAnswered (refusal self.old (Own (TakeFrames peer count)))
+            (λ frames. FramesStep self.old peer count frames.items self.new) (self.new ≡ self.old)
+            result }
     {
         of_hub(self.side.take_frames(peer, count))
     }
@@ -428,7 +466,8 @@ impl<T: SubTable, R: Race> Node<T, R> {
 
     /// Why it refuses a publish.
     fn publish_fault(&self, conn: ConnId, publication: &Pub, word: u64) -> Option<NodeFault>
-        ensures { result ≡ refusal self.now (Own (Publish (publication_by conn publication.now word))) }
+        ensures { result
+            ≡ refusal self.now (Own (Publish (publication_by conn publication.now word))) }
     {
         let count = self.lines.len();
         let finished = finished_by(&self.race, count as u64);
@@ -517,8 +556,13 @@ impl<T: SubTable, R: Race> Node<T, R> {
     /// Whatever the server had done since its start, it keeps the promises of one server of all of it together: see
     /// [`servers_keep_their_promises`].
     pub fn run(&mut self, events: &[NodeEvent]) -> Result<Vec<Result<Did, Refused>>, AllocError>
-        ensures run { IfOk result (λ answers. IsRun self.old (map event_of events.now) (map outcome_told answers.items) self.new) }
-        ensures promises { IfOk result (λ answers. (h : List Done) → Ran self.old.server h self.old.node → GoesOn (done_with (map event_of events.now) (map outcome_told answers.items)) h self.new) }
+        ensures run { IfOk result (λ answers.
+            IsRun self.old (map event_of events.now) (map outcome_told answers.items) self.new) }
+        ensures promises { IfOk result (λ answers.
+            (h : List Done)
+            → Ran self.old.server h self.old.node
+            → GoesOn (done_with (map event_of events.now) (map outcome_told answers.items)) h
+            self.new) }
         ensures short { OnErr result (self.new ≡ self.old) }
     {
         servers_keep_their_promises();
@@ -545,7 +589,9 @@ impl<T: SubTable, R: Race> Node<T, R> {
         count: usize,
         out: &mut Vec<u8>,
     ) -> Result<usize, Failure<NodeFault>>
-        ensures { IsAnswered (refusal self.old (Own (OfConn conn (Take count)))) (λ taken. TakesBytes self.old conn count taken out.old.items out.new.items self.new) ((self.new ≡ self.old) × (out.new.items ≡ out.old.items)) result }
+        ensures { IsAnswered (refusal self.old (Own (OfConn conn (Take count))))
+            (λ taken. TakesBytes self.old conn count taken out.old.items out.new.items self.new)
+            ((self.new ≡ self.old) × (out.new.items ≡ out.old.items)) result }
     {
         let Some(place) = place_of_conn(self.lines.len(), conn) else {
             return Err(Failure::Refused(NodeFault::Shard(ShardFault::NoConn)));
@@ -568,7 +614,10 @@ impl<T: SubTable, R: Race> Node<T, R> {
         publication: &Pub,
         word: u64,
     ) -> Result<Issued, Failure<NodeFault>>
-        ensures { let p = publication_by conn publication.now word in IsAnswered (refusal self.old (Own (Publish p))) (λ done. PublishStep self.old p done.turn done.frames self.new) (self.new ≡ self.old) result }
+        ensures { let p = publication_by conn publication.now word in
+            IsAnswered (refusal self.old (Own (Publish p)))
+            (λ done. PublishStep self.old p done.turn done.frames self.new) (self.new ≡ self.old)
+            result }
     {
         let count = self.lines.len();
         let finished = finished_by(&self.race, count as u64);
@@ -596,7 +645,9 @@ impl<T: SubTable, R: Race> Node<T, R> {
     /// later life of the peer than was seen ends the session that was kept with it. Nothing is sent on
     /// (NATS documentation, "Cluster Protocol"). Refused as [`Hub::plan_receive`] is.
     pub fn receive(&mut self, frame: &Numbered) -> Result<Received, Failure<NodeFault>>
-        ensures { IsAnswered (refusal self.old (Receive frame.now)) (λ received. ReceiveStep self.old frame.now received self.new) (self.new ≡ self.old) result }
+        ensures { IsAnswered (refusal self.old (Receive frame.now))
+            (λ received. ReceiveStep self.old frame.now received self.new) (self.new ≡ self.old)
+            result }
     {
         let count = self.lines.len();
         let finished = finished_by(&self.race, count as u64);
@@ -616,7 +667,9 @@ impl<T: SubTable, R: Race> Node<T, R> {
     /// the session that was kept with it ends. Refused with [`NodeFault::NoShard`] where there is no such
     /// shard, and as the hub's call is.
     pub fn collect(&mut self, shard: u64) -> Result<CollectResult, Failure<NodeFault>>
-        ensures { IsAnswered (refusal self.old (Own (Collect shard))) (λ told. CollectStep self.old shard told.changes told.frames told.cut.items self.new) (self.new ≡ self.old) result }
+        ensures { IsAnswered (refusal self.old (Own (Collect shard)))
+            (λ told. CollectStep self.old shard told.changes told.frames told.cut.items self.new)
+            (self.new ≡ self.old) result }
     {
         let Some(place) = place_of_shard(self.lines.len(), shard) else {
             return Err(Failure::Refused(NodeFault::NoShard));
@@ -641,7 +694,9 @@ impl<T: SubTable, R: Race> Node<T, R> {
     /// [`Hub::drain`](hub_core::Hub::drain). A peer without room for it is cut, and the session that was kept with it
     /// ends. Refused as the hub's call is.
     pub fn drain(&mut self) -> Result<CollectResult, Failure<NodeFault>>
-        ensures { IsAnswered (refusal self.old (Own Drain)) (λ told. DrainStep self.old told.changes told.frames told.cut.items self.new) (self.new ≡ self.old) result }
+        ensures { IsAnswered (refusal self.old (Own Drain))
+            (λ told. DrainStep self.old told.changes told.frames told.cut.items self.new)
+            (self.new ≡ self.old) result }
     {
         let cut = match self.side.drain() {
             Ok(cut) => cut,

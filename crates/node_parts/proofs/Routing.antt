@@ -13,7 +13,10 @@ use Rattle.node_parts.specs.Jobs.{IsReceived}
 use Rattle.node_parts.specs.declared.told.Received.TheVariants.{Routed, Heard}
 
 -- news are heard
-pub news_received : (hub : hub.State) (frame : Frame) (number count : ℕ) (jobs : List Job) → has_message frame.body ≡ false → number ≡ frame.number → IsReceived hub frame frame.body count (Heard number) jobs
+pub news_received : (hub : hub.State) (frame : Frame) (number count : ℕ) (jobs : List Job)
+    → has_message frame.body ≡ false
+    → number ≡ frame.number
+    → IsReceived hub frame frame.body count (Heard number) jobs
 news_received hub frame number count jobs is same = go frame.body is
   where
     go : (b : Body) → has_message b ≡ false → IsReceived hub frame b count (Heard number) jobs
@@ -23,7 +26,10 @@ news_received hub frame number count jobs is same = go frame.body is
     go (Msg content queues) e = absurd (true≢false e)
 
 -- a message is routed
-pub message_received : (hub : hub.State) (frame : Frame) (count : ℕ) (job : Job) (jobs : List Job) → Some job ≡ job_of hub frame frame.body → jobs ≡ replicate count job → IsReceived hub frame frame.body count (Routed job.turn) jobs
+pub message_received : (hub : hub.State) (frame : Frame) (count : ℕ) (job : Job) (jobs : List Job)
+    → Some job ≡ job_of hub frame frame.body
+    → jobs ≡ replicate count job
+    → IsReceived hub frame frame.body count (Routed job.turn) jobs
 message_received hub frame count job jobs is alike = go frame.body is
   where
     go : (b : Body) → Some job ≡ job_of hub frame b → IsReceived hub frame b count (Routed job.turn) jobs

@@ -28,12 +28,14 @@ use Rattle.node_parts.specs.declared.lines.Claimed.TheVariants.{Nobody, Lost, Wo
 -- ---- a call
 
 -- it is the step of this event, with the shard's answer
-pub record LineStep (old : ShardWithJobs) (event : of_shard.Event) (answer : of_shard.Answer) (new : ShardWithJobs) : Type 0 where
+pub record LineStep (old : ShardWithJobs) (event : of_shard.Event) (answer : of_shard.Answer)
+    (new : ShardWithJobs) : Type 0 where
   pub answered : answer ≡ shard_answer old.shard event
   pub after : new ≡ line_after event old
 
 -- the first job that waits has begun, with this answer
-pub record LineBegins (copies : Bool) (old : ShardWithJobs) (begun : Begun) (new : ShardWithJobs) : Type 0 where
+pub record LineBegins (copies : Bool) (old : ShardWithJobs) (begun : Begun) (new : ShardWithJobs) :
+    Type 0 where
   pub job : Job
   pub first : first_of old.waiting ≡ Some job
   pub told : IsTold copies old.shard job begun
@@ -65,22 +67,34 @@ is_won (Won sub placed ended) = true
 abbrev pub IsClaimTold : Bool → Claimed → of_shard.Answer → Type 0
 IsClaimTold copies Nobody answer = answer ≡ of_shard.Nobody
 IsClaimTold copies Lost answer = answer ≡ of_shard.Lost
-IsClaimTold copies (Won sub placed ended) answer = (entry : Placed) × (placed ≡ copy_of copies entry) × (answer ≡ of_shard.Won sub entry (option_to_list ended))
+IsClaimTold copies (Won sub placed ended) answer =
+    (entry : Placed)
+    × (placed ≡ copy_of copies entry)
+    × (answer ≡ of_shard.Won sub entry (option_to_list ended))
 
 -- an index of the job in hand is claimed: the shard's part, and the race's
-pub record LineClaims (copies : Bool) (old : ShardWithJobs) (race : RaceState) (shard index : ℕ) (claimed : Claimed) (new : ShardWithJobs) (after_race : RaceState) : Type 0 where
-  pub told : IsClaimTold copies claimed (shard_answer old.shard (of_shard.Claim index (is_won claimed)))
+pub record LineClaims (copies : Bool) (old : ShardWithJobs) (race : RaceState) (shard index : ℕ)
+    (claimed : Claimed) (new : ShardWithJobs) (after_race : RaceState) : Type 0 where
+  pub told :
+      IsClaimTold copies claimed (shard_answer old.shard (of_shard.Claim index (is_won claimed)))
   pub after : new ≡ line_after (of_shard.Claim index (is_won claimed)) old
-  pub moves : ClaimRace race shard index old.shard.hand (candidate_of old.shard old.shard.hand index) (is_won claimed) after_race
+  pub moves : ClaimRace race shard index old.shard.hand
+      (candidate_of old.shard old.shard.hand index) (is_won claimed) after_race
 
 -- the turn in hand is the shard's in the race, and the index that comes next was not claimed in it
 pub record MayClaim (line : ShardWithJobs) (race : RaceState) (shard : ℕ) : Type 0 where
-  pub turn : (turn : ℕ) → option_map (λ (job : Job). job.turn) line.shard.hand ≡ Some turn → IsInTurn race shard turn
+  pub turn : (turn : ℕ)
+      → option_map (λ (job : Job). job.turn) line.shard.hand ≡ Some turn
+      → IsInTurn race shard turn
   pub next : next_of race shard ≤ tried_of line.shard.hand line.shard.next_index
 
 -- where no job is in hand, the first that waits is that of the next turn
 abbrev pub WaitsNext : ShardWithJobs → Type 0
-WaitsNext line = (job : Job) → line.shard.hand ≡ None → first_of line.waiting ≡ Some job → job.turn ≡ line.shard.finished + 1
+WaitsNext line =
+    (job : Job)
+    → line.shard.hand ≡ None
+    → first_of line.waiting ≡ Some job
+    → job.turn ≡ line.shard.finished + 1
 
 -- what a shard refuses, its server refuses
 abbrev pub failure_of_shard : Failure ShardFault → Failure NodeFault
@@ -102,7 +116,8 @@ abbrev pub first_entries : ShardWithJobs → ℕ → ℕ → List Written
 first_entries line conn count = take count (waits_for conn line.shard.clients)
 
 -- the bytes of the first entries stand behind those that were there
-pub record LineTakesBytes (old : ShardWithJobs) (conn count taken : ℕ) (before bytes : List ℕ) (new : ShardWithJobs) : Type 0 where
+pub record LineTakesBytes (old : ShardWithJobs) (conn count taken : ℕ) (before bytes : List ℕ)
+    (new : ShardWithJobs) : Type 0 where
   pub told : taken ≡ length (first_entries old conn count)
   pub bytes_are : bytes ≡ before ++ bytes_of_all (first_entries old conn count)
   pub after : new ≡ line_after (of_shard.Take conn count) old

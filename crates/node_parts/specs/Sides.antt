@@ -35,7 +35,8 @@ pub data Answer : Type 0 where
   OfHub : (answer : of_hub.Answer) → Answer
   OfSessions : (answer : of_sessions.Answer) → Answer
 
--- ---- what may be asked: a peer comes up and is cut by its session alone; and an INFO or a CONNECT comes with the greatest incarnation that the hub has seen of its sender
+-- ---- what may be asked: a peer comes up and is cut by its session alone; and an INFO or a CONNECT
+-- comes with the greatest incarnation that the hub has seen of its sender
 
 abbrev pub IsAskedHub : of_hub.Event → Type 0
 IsAskedHub (of_hub.Publish p finished) = Unit {0}
@@ -50,7 +51,8 @@ abbrev pub IsAskedSessions : HubWithSessions → of_sessions.Event → Type 0
 IsAskedSessions s (of_sessions.Dial q) = Unit {0}
 IsAskedSessions s of_sessions.Accept = Unit {0}
 IsAskedSessions s (of_sessions.OnInfo session info least) = least ≡ seen_name s info.server_name
-IsAskedSessions s (of_sessions.OnConnect session connect least) = least ≡ seen_name s connect.server_name
+IsAskedSessions s (of_sessions.OnConnect session connect least) =
+    least ≡ seen_name s connect.server_name
 IsAskedSessions s (of_sessions.Cut session) = Unit {0}
 
 abbrev pub IsAsked : HubWithSessions → Event → Type 0
@@ -64,14 +66,17 @@ IsFree s (BySessions event) = session_refusal s.server s.sessions event ≡ None
 
 -- ---- what is after it
 
--- a frame of a greater incarnation than was seen ends the session that was kept with its server, at this place
+-- a frame of a greater incarnation than was seen ends the session that was kept with its server, at
+-- this place
 abbrev pub session_after_frame : ℕ → ℕ → ℕ → sessions.State → sessions.State
 session_after_frame q seen inc s = if nat_lt seen inc then without_peer q s else s
 
--- a frame of a later life of its server ends the session that was kept with it, and so does a collect with each peer that it cuts
+-- a frame of a later life of its server ends the session that was kept with it, and so does a
+-- collect with each peer that it cuts
 abbrev pub sessions_with : HubWithSessions → of_hub.Event → sessions.State
 sessions_with s (of_hub.Publish p finished) = s.sessions
-sessions_with s (of_hub.Receive frame finished) = session_after_frame (place s.server frame.from) (seen_name s frame.from) frame.inc s.sessions
+sessions_with s (of_hub.Receive frame finished) =
+    session_after_frame (place s.server frame.from) (seen_name s frame.from) frame.inc s.sessions
 sessions_with s (of_hub.Collect shard deltas) = without_peers (slow_peers s.hub deltas) s.sessions
 sessions_with s of_hub.Drain = without_peers (peers_too_slow s.hub) s.sessions
 sessions_with s (of_hub.Up q inc) = s.sessions
@@ -82,20 +87,31 @@ sessions_with s (of_hub.TakeFrom q count) = s.sessions
 abbrev pub hub_with : HubWithSessions → of_sessions.Event → hub.State
 hub_with s (of_sessions.Dial q) = s.hub
 hub_with s of_sessions.Accept = s.hub
-hub_with s (of_sessions.OnInfo session info least) = up s.server s.hub (place s.server info.server_name) info.inc
-hub_with s (of_sessions.OnConnect session connect least) = up s.server s.hub (place s.server connect.server_name) connect.inc
+hub_with s (of_sessions.OnInfo session info least) =
+    up s.server s.hub (place s.server info.server_name) info.inc
+hub_with s (of_sessions.OnConnect session connect least) =
+    up s.server s.hub (place s.server connect.server_name) connect.inc
 hub_with s (of_sessions.Cut session) = cut_if s.hub (peer_of_session session s.sessions.standing)
 
 abbrev pub side_after : HubWithSessions → Event → HubWithSessions
-side_after s (ByHub event) = record { server = s.server; hub = hub_after s.server s.hub event; sessions = sessions_with s event }
-side_after s (BySessions event) = record { server = s.server; hub = hub_with s event; sessions = session_after s.server s.sessions event }
+side_after s (ByHub event) = record {
+  server = s.server;
+  hub = hub_after s.server s.hub event;
+  sessions = sessions_with s event;
+}
+side_after s (BySessions event) = record {
+  server = s.server;
+  hub = hub_with s event;
+  sessions = session_after s.server s.sessions event;
+}
 
 abbrev pub side_answer : HubWithSessions → Event → Answer
 side_answer s (ByHub event) = OfHub (hub_answer s.server s.hub event)
 side_answer s (BySessions event) = OfSessions (session_answer s.server s.sessions event)
 
 -- the event is done, with this answer
-pub record IsDone (old : HubWithSessions) (event : Event) (answer : Answer) (new : HubWithSessions) : Type 0 where
+pub record IsDone (old : HubWithSessions) (event : Event) (answer : Answer)
+    (new : HubWithSessions) : Type 0 where
   pub free : IsFree old event
   pub asked : IsAsked old event
   pub answered : answer ≡ side_answer old event

@@ -77,8 +77,12 @@ fn copy_all(copies: &mut Vec<Job>, job: Job, count: usize) -> Result<Turn, Alloc
 /// Each line gets one of the jobs. Takes no memory.
 fn hand_out<T: SubTable>(lines: &mut [ShardWithJobs<T>], jobs: &mut Vec<Job>)
     requires enough { length jobs.old.items ≡ length lines.old }
-    requires room { (place : ℕ) (line : OneLine) → slice_get lines.old place ≡ Some line → length line.waiting < WINDOW }
-    ensures { (job : OneJob) → jobs.old.items ≡ replicate (length lines.old) job → lines.new ≡ map (line_with_job job) lines.old }
+    requires room { (place : ℕ) (line : OneLine)
+        → slice_get lines.old place ≡ Some line
+        → length line.waiting < WINDOW }
+    ensures { (job : OneJob)
+        → jobs.old.items ≡ replicate (length lines.old) job
+        → lines.new ≡ map (line_with_job job) lines.old }
 {
     for line in lines {
         let Some(job) = jobs.pop() else {
@@ -92,8 +96,12 @@ fn hand_out<T: SubTable>(lines: &mut [ShardWithJobs<T>], jobs: &mut Vec<Job>)
 /// The first line gets the job, and each other one a copy of it. Takes no memory.
 fn give<T: SubTable>(lines: &mut [ShardWithJobs<T>], job: Job, copies: &mut Vec<Job>)
     requires enough { length (copies.old.items ++ job ∷ []) ≡ length lines.old }
-    requires room { (place : ℕ) (line : OneLine) → slice_get lines.old place ≡ Some line → length line.waiting < WINDOW }
-    ensures { (same : OneJob) → copies.old.items ++ job ∷ [] ≡ replicate (length lines.old) same → lines.new ≡ map (line_with_job same) lines.old }
+    requires room { (place : ℕ) (line : OneLine)
+        → slice_get lines.old place ≡ Some line
+        → length line.waiting < WINDOW }
+    ensures { (same : OneJob)
+        → copies.old.items ++ job ∷ [] ≡ replicate (length lines.old) same
+        → lines.new ≡ map (line_with_job same) lines.old }
 {
     let Some((first, others)) = lines.split_first_mut() else {
         // required: there is a line for the job
@@ -112,7 +120,8 @@ pub fn issue<T: SubTable, R: Race>(
 )
     requires ready { MayIssue (R.contents race.old) lines.old }
     requires enough { length (copies.old.items ++ job ∷ []) ≡ length lines.old }
-    ensures { AreGiven (R.contents race.old) lines.old (copies.old.items ++ job ∷ []) (R.contents race.new) lines.new }
+    ensures { AreGiven (R.contents race.old) lines.old (copies.old.items ++ job ∷ [])
+        (R.contents race.new) lines.new }
 {
     // required: the next turn may be issued
     let Ok(_) = race.issue() else { unreachable!() };
@@ -127,7 +136,8 @@ fn issue_all<T: SubTable, R: Race>(
 )
     requires ready { MayIssue (R.contents race.old) lines.old }
     requires enough { length jobs.old.items ≡ length lines.old }
-    ensures { AreGiven (R.contents race.old) lines.old jobs.old.items (R.contents race.new) lines.new }
+    ensures { AreGiven (R.contents race.old) lines.old jobs.old.items (R.contents race.new)
+        lines.new }
 {
     // required: the next turn may be issued
     let Ok(_) = race.issue() else { unreachable!() };
@@ -143,7 +153,12 @@ pub fn take_in(
     count: usize,
 ) -> Result<Received, Failure<HubFault>>
     requires { 1 ≤ count }
-    ensures { let e = ReceiveFrame frame.now finished.now in IsAnswered (hub_refusal side.old.server side.old.hub e) (λ received. (side.new ≡ side_after side.old (ByHub e)) × IsReceived side.old.hub frame.now frame.now.body count received copies.new.items) (side.new ≡ side.old) result }
+    ensures { let e = ReceiveFrame frame.now finished.now in
+        IsAnswered (hub_refusal side.old.server side.old.hub e)
+        (λ received.
+        (side.new ≡ side_after side.old (ByHub e))
+        × IsReceived side.old.hub frame.now frame.now.body count received copies.new.items)
+        (side.new ≡ side.old) result }
 {
     if !is_message(frame) {
         side.apply_update(frame, finished)?;
@@ -165,8 +180,10 @@ pub fn route<T: SubTable, R: Race>(
     jobs: &mut Vec<Job>,
     frame: &Numbered,
 )
-    requires { MayRoute (has_message frame.now.body) (R.contents race.old) lines.old jobs.old.items }
-    ensures { AreRouted (has_message frame.now.body) (R.contents race.old) lines.old jobs.old.items (R.contents race.new) lines.new }
+    requires { MayRoute (has_message frame.now.body) (R.contents race.old) lines.old
+        jobs.old.items }
+    ensures { AreRouted (has_message frame.now.body) (R.contents race.old) lines.old jobs.old.items
+        (R.contents race.new) lines.new }
 {
     if !is_message(frame) {
         return;

@@ -113,7 +113,9 @@ impl<T: SubTable> ShardWithJobs<T> {
 
     /// [`Shard::attach`].
     pub fn attach(&mut self) -> Result<ConnId, Failure<NodeFault>>
-        ensures { IsAnswered (event_refusal self.old (Some Attach)) (λ conn. LineStep self.old Attach (Attached conn) self.new) (self.new ≡ self.old) result }
+        ensures { IsAnswered (event_refusal self.old (Some Attach))
+            (λ conn. LineStep self.old Attach (Attached conn) self.new) (self.new ≡ self.old)
+            result }
     {
         shard_answer(self.shard.attach())
     }
@@ -125,7 +127,9 @@ impl<T: SubTable> ShardWithJobs<T> {
         key: Key,
         sid: Sid,
     ) -> Result<Subscribed, Failure<NodeFault>>
-        ensures { IsAnswered (event_refusal self.old (Some (Subscribe conn key sid))) (λ done. LineStep self.old (Subscribe conn key sid) (answer_of done) self.new) (self.new ≡ self.old) result }
+        ensures { IsAnswered (event_refusal self.old (Some (Subscribe conn key sid)))
+            (λ done. LineStep self.old (Subscribe conn key sid) (answer_of done) self.new)
+            (self.new ≡ self.old) result }
     {
         shard_answer(self.shard.subscribe(conn, key, sid))
     }
@@ -137,49 +141,66 @@ impl<T: SubTable> ShardWithJobs<T> {
         sid: &Sid,
         max: Option<u64>,
     ) -> Result<Option<SubId>, NodeFault>
-        ensures { IsDecided (event_refusal self.old (Some (Unsubscribe conn sid.now max))) (λ ended. LineStep self.old (Unsubscribe conn sid.now max) (Unsubscribed (option_to_list ended)) self.new) (self.new ≡ self.old) result }
+        ensures { IsDecided (event_refusal self.old (Some (Unsubscribe conn sid.now max)))
+            (λ ended.
+            LineStep self.old (Unsubscribe conn sid.now max) (Unsubscribed (option_to_list ended))
+            self.new)
+            (self.new ≡ self.old) result }
     {
         shard_decision(self.shard.unsubscribe(conn, sid, max))
     }
 
     /// [`Shard::reply`].
     pub fn reply(&mut self, conn: ConnId, frame: &ReplyFrame) -> Result<Closed, Failure<NodeFault>>
-        ensures { IsAnswered (event_refusal self.old (Some (Reply conn frame.now))) (λ closed. LineStep self.old (Reply conn frame.now) (Replied closed.shut closed.ended.items) self.new) (self.new ≡ self.old) result }
+        ensures { IsAnswered (event_refusal self.old (Some (Reply conn frame.now)))
+            (λ closed.
+            LineStep self.old (Reply conn frame.now) (Replied closed.shut closed.ended.items)
+            self.new)
+            (self.new ≡ self.old) result }
     {
         shard_answer(self.shard.reply(conn, frame))
     }
 
     /// [`Shard::set_headers`].
     pub fn set_headers(&mut self, conn: ConnId, on: bool) -> Result<(), NodeFault>
-        ensures { IsDecided (event_refusal self.old (Some (SetHeaders conn on))) (λ _. LineStep self.old (SetHeaders conn on) HeadersSet self.new) (self.new ≡ self.old) result }
+        ensures { IsDecided (event_refusal self.old (Some (SetHeaders conn on)))
+            (λ _. LineStep self.old (SetHeaders conn on) HeadersSet self.new) (self.new ≡ self.old)
+            result }
     {
         shard_decision(self.shard.set_headers(conn, on))
     }
 
     /// [`Shard::shut`].
     pub fn shut(&mut self, conn: ConnId, text: ErrText) -> Result<Vec<SubId>, Failure<NodeFault>>
-        ensures { IsAnswered (event_refusal self.old (Some (Shut conn text))) (λ ended. LineStep self.old (Shut conn text) (WasShut ended.items) self.new) (self.new ≡ self.old) result }
+        ensures { IsAnswered (event_refusal self.old (Some (Shut conn text)))
+            (λ ended. LineStep self.old (Shut conn text) (WasShut ended.items) self.new)
+            (self.new ≡ self.old) result }
     {
         shard_answer(self.shard.shut(conn, text))
     }
 
     /// [`Shard::detach`].
     pub fn detach(&mut self, conn: ConnId) -> Result<Vec<SubId>, Failure<NodeFault>>
-        ensures { IsAnswered (event_refusal self.old (Some (Detach conn))) (λ ended. LineStep self.old (Detach conn) (Detached ended.items) self.new) (self.new ≡ self.old) result }
+        ensures { IsAnswered (event_refusal self.old (Some (Detach conn)))
+            (λ ended. LineStep self.old (Detach conn) (Detached ended.items) self.new)
+            (self.new ≡ self.old) result }
     {
         shard_answer(self.shard.detach(conn))
     }
 
     /// [`Shard::take`].
     pub fn take(&mut self, conn: ConnId, count: usize) -> Result<Vec<Entry>, Failure<NodeFault>>
-        ensures { IsAnswered (event_refusal self.old (Some (Take conn count))) (λ entries. LineStep self.old (Take conn count) (Taken entries.items) self.new) (self.new ≡ self.old) result }
+        ensures { IsAnswered (event_refusal self.old (Some (Take conn count)))
+            (λ entries. LineStep self.old (Take conn count) (Taken entries.items) self.new)
+            (self.new ≡ self.old) result }
     {
         shard_answer(self.shard.take(conn, count))
     }
 
     /// [`Shard::end`]. Gives the turn that is finished.
     pub fn end(&mut self) -> Result<Turn, NodeFault>
-        ensures { IsDecided (event_refusal self.old (Some End)) (λ turn. LineEnds self.old turn self.new) (self.new ≡ self.old) result }
+        ensures { IsDecided (event_refusal self.old (Some End))
+            (λ turn. LineEnds self.old turn self.new) (self.new ≡ self.old) result }
     {
         let Some(job) = self.shard.hand() else {
             return Err(NodeFault::Shard(ShardFault::NoJob));
@@ -194,7 +215,8 @@ impl<T: SubTable> ShardWithJobs<T> {
     /// Begins the first job that waits: [`Shard::begin`]. A fault leaves it in front. Refused with
     /// [`ShardFault::JobInHand`], and then with [`ShardFault::NoJob`] where no job waits.
     pub fn begin(&mut self, copies: bool) -> Result<Begun, Failure<NodeFault>>
-        ensures { IsAnswered (event_refusal self.old (begin_of (first_of self.old.waiting))) (λ begun. LineBegins copies self.old begun self.new) (self.new ≡ self.old) result }
+        ensures { IsAnswered (event_refusal self.old (begin_of (first_of self.old.waiting)))
+            (λ begun. LineBegins copies self.old begun self.new) (self.new ≡ self.old) result }
     {
         match self.waiting.pop_front() {
             None => Err(Failure::Refused(no_job(&self.shard))),
@@ -212,7 +234,9 @@ impl<T: SubTable> ShardWithJobs<T> {
     /// finished. Refused with [`ShardFault::NoJob`] where there is neither. Takes no memory.
     pub fn drop_job(&mut self) -> Result<Turn, NodeFault>
         requires { WaitsNext self.old }
-        ensures { IsDecided (event_refusal self.old (drop_of self.old.shard.hand (first_of self.old.waiting))) (λ turn. LineDrops self.old turn self.new) (self.new ≡ self.old) result }
+        ensures { IsDecided
+            (event_refusal self.old (drop_of self.old.shard.hand (first_of self.old.waiting)))
+            (λ turn. LineDrops self.old turn self.new) (self.new ≡ self.old) result }
     {
         if let Some(job) = self.shard.hand() {
             let turn = job.turn;
@@ -231,7 +255,8 @@ impl<T: SubTable> ShardWithJobs<T> {
 
     /// [`Shard::drain`].
     pub fn drain(&mut self) -> Result<(), NodeFault>
-        ensures { IsDecided (event_refusal self.old (Some Drain)) (λ _. LineStep self.old Drain Drains self.new) (self.new ≡ self.old) result }
+        ensures { IsDecided (event_refusal self.old (Some Drain))
+            (λ _. LineStep self.old Drain Drains self.new) (self.new ≡ self.old) result }
     {
         shard_decision(self.shard.drain())
     }
@@ -289,7 +314,11 @@ impl<T: SubTable> ShardWithJobs<T> {
         copies: bool,
     ) -> Result<Claimed, Failure<NodeFault>>
         requires { MayClaim self.old (R.contents race.old) shard }
-        ensures { IsAnswered (event_refusal self.old (Some (Claim index false))) (λ claimed. LineClaims copies self.old (R.contents race.old) shard index claimed self.new (R.contents race.new)) ((self.new ≡ self.old) × (R.contents race.new ≡ R.contents race.old)) result }
+        ensures { IsAnswered (event_refusal self.old (Some (Claim index false)))
+            (λ claimed.
+            LineClaims copies self.old (R.contents race.old) shard index claimed self.new
+            (R.contents race.new))
+            ((self.new ≡ self.old) × (R.contents race.new ≡ R.contents race.old)) result }
     {
         claims_are_whole();
         let Some(job) = self.shard.hand() else {

@@ -34,7 +34,10 @@ pub(crate) fn seen_of(hub: &Hub, name: NodeId) -> u64
 
 /// Ends the sessions that are kept with the peers at these places. Takes no memory.
 pub(crate) fn drop_sessions(sessions: &mut Sessions, peers: &[usize])
-    ensures { sessions.new ≡ record { server = sessions.old.server; state = without_peers peers.now sessions.old.state } }
+    ensures { sessions.new ≡ record {
+      server = sessions.old.server;
+      state = without_peers peers.now sessions.old.state;
+    } }
 {
     for peer in peers {
         sessions.drop_kept(*peer);
@@ -52,7 +55,12 @@ pub fn is_message(frame: &Numbered) -> bool
 /// ends. Takes no memory.
 pub(crate) fn end_old_session(sessions: &mut Sessions, frame: &Numbered, seen: u64)
     requires { peer sessions.old.server (place_of sessions.old.server frame.now.from) ≡ true }
-    ensures { sessions.new ≡ record { server = sessions.old.server; state = session_after_frame (place_of sessions.old.server frame.now.from) seen frame.now.inc sessions.old.state } }
+    ensures { sessions.new ≡ record {
+      server = sessions.old.server;
+      state =
+          session_after_frame (place_of sessions.old.server frame.now.from) seen frame.now.inc
+          sessions.old.state;
+    } }
 {
     if frame.inc().get() <= seen {
         return;

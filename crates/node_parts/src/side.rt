@@ -29,7 +29,13 @@ use subj::{ConnId, Delta, Failure, Finished, Incarnation, Job, NodeId, Pub, Serv
 
 /// Counts the deltas of the shard, and tells of them: [`Hub::collect`].
 fn tell(hub: &mut Hub, shard: u64, deltas: &[Delta]) -> Result<CollectResult, Failure<HubFault>>
-    ensures { IsAnswered (hub_refusal hub.old.server hub.old.state (Collect shard deltas.now)) (λ told. DoesStep hub.old (Collect shard deltas.now) (Collected told.changes.items (collect_frames hub.old.server hub.old.state deltas.now) told.cut.items) hub.new) (hub.new ≡ hub.old) result }
+    ensures { IsAnswered (hub_refusal hub.old.server hub.old.state (Collect shard deltas.now))
+        (λ told.
+        DoesStep hub.old (Collect shard deltas.now)
+        (Collected told.changes.items (collect_frames hub.old.server hub.old.state deltas.now)
+        told.cut.items)
+        hub.new)
+        (hub.new ≡ hub.old) result }
 {
     let _shard = shard;
     hub.collect(deltas)
@@ -51,7 +57,11 @@ impl Model for HubWithSessions {
 
     ghost Value = { HubWithSessions };
 
-    ghost view = { λ s. record { server = s.hub.server; hub = s.hub.state; sessions = s.sessions.state } };
+    ghost view = { λ s. record {
+      server = s.hub.server;
+      hub = s.hub.state;
+      sessions = s.sessions.state;
+    } };
 
     ghost invariant = { λ s. s.sessions.server ≡ s.hub.server };
 }
@@ -92,14 +102,19 @@ impl HubWithSessions {
     /// Whether the other server, at this place, is known as it runs: a session with its incarnation is kept, and
     /// [`Hub::knows`]. Takes no memory.
     pub fn knows(&self, place: usize, other: &HubWithSessions) -> bool
-        ensures { result ≡ (has_session place other.now.server.inc self.now.sessions.standing && knows_at (slice_get self.now.hub.peers place) other.now.server.inc other.now.hub.counts) }
+        ensures { result
+            ≡ (has_session place other.now.server.inc self.now.sessions.standing
+            && knows_at (slice_get self.now.hub.peers place) other.now.server.inc
+            other.now.hub.counts) }
     {
         self.sessions.keeps(place, other.hub.server().inc()) && self.hub.knows(place, &other.hub)
     }
 
     /// [`Sessions::info_fault`], with the greatest incarnation that the hub has seen of the sender.
     pub fn info_fault(&self, session: SessionId, info: &RouteInfo) -> Option<SessionFault>
-        ensures { result ≡ session_refusal self.now.server self.now.sessions (OnInfo session info.now (seen_name self.now info.now.server_name)) }
+        ensures { result
+            ≡ session_refusal self.now.server self.now.sessions
+            (OnInfo session info.now (seen_name self.now info.now.server_name)) }
     {
         let least = seen_of(&self.hub, info.server_name());
         self.sessions.info_fault(session, info, least)
@@ -107,7 +122,9 @@ impl HubWithSessions {
 
     /// [`Sessions::connect_fault`], with the greatest incarnation that the hub has seen of the sender.
     pub fn connect_fault(&self, session: SessionId, connect: &RouteConnect) -> Option<SessionFault>
-        ensures { result ≡ session_refusal self.now.server self.now.sessions (OnConnect session connect.now (seen_name self.now connect.now.server_name)) }
+        ensures { result
+            ≡ session_refusal self.now.server self.now.sessions
+            (OnConnect session connect.now (seen_name self.now connect.now.server_name)) }
     {
         let least = seen_of(&self.hub, connect.server_name());
         self.sessions.connect_fault(session, connect, least)
@@ -120,7 +137,10 @@ impl HubWithSessions {
         name: NodeId,
         inc: Incarnation,
     ) -> Result<Option<Numbered>, AllocError>
-        ensures { IfOk result (λ snapshot. snapshot ≡ option_map (λ q. snapshot_to self.now.server self.now.hub q inc) (peer_by_name self.now.server name)) }
+        ensures { IfOk result (λ snapshot.
+            snapshot
+            ≡ option_map (λ q. snapshot_to self.now.server self.now.hub q inc)
+            (peer_by_name self.now.server name)) }
     {
         match peer_named(self.hub.server(), name) {
             None => Ok(None),
@@ -137,7 +157,13 @@ impl HubWithSessions {
         word: u64,
         finished: &Finished,
     ) -> Result<PublishPlan, Failure<HubFault>>
-        ensures { IsAnswered (publish_refusal self.now.server self.now.hub (publication_by conn publication.now word) finished.now) (λ plan. IsPlanOf self.now.server self.now.hub (publication_by conn publication.now word) plan.job plan.frames.items) ⊤ result }
+        ensures { IsAnswered
+            (publish_refusal self.now.server self.now.hub (publication_by conn publication.now word)
+            finished.now)
+            (λ plan.
+            IsPlanOf self.now.server self.now.hub (publication_by conn publication.now word)
+            plan.job plan.frames.items)
+            ⊤ result }
     {
         self.hub.plan_publish(conn, publication, word, finished)
     }
@@ -148,28 +174,37 @@ impl HubWithSessions {
         frame: &Numbered,
         finished: &Finished,
     ) -> Result<Option<Job>, Failure<HubFault>>
-        ensures { IsAnswered (receive_refusal self.now.server self.now.hub finished.now frame.now) (λ job. job ≡ job_of self.now.hub frame.now frame.now.body) ⊤ result }
+        ensures { IsAnswered (receive_refusal self.now.server self.now.hub finished.now frame.now)
+            (λ job. job ≡ job_of self.now.hub frame.now frame.now.body) ⊤ result }
     {
         self.hub.plan_receive(frame, finished)
     }
 
     /// [`Sessions::dial`].
     pub fn dial(&mut self, peer: usize) -> Result<SessionId, Failure<SessionFault>>
-        ensures { IsAnswered (session_refusal self.old.server self.old.sessions (Dial peer)) (λ session. IsDone self.old (BySessions (Dial peer)) (OfSessions (Dialed session)) self.new) (self.new ≡ self.old) result }
+        ensures { IsAnswered (session_refusal self.old.server self.old.sessions (Dial peer))
+            (λ session.
+            IsDone self.old (BySessions (Dial peer)) (OfSessions (Dialed session)) self.new)
+            (self.new ≡ self.old) result }
     {
         self.sessions.dial(peer)
     }
 
     /// [`Sessions::accept`].
     pub fn accept(&mut self) -> Result<(SessionId, RouteInfo), Failure<SessionFault>>
-        ensures { IsAnswered (session_refusal self.old.server self.old.sessions Accept) (λ given. IsDone self.old (BySessions Accept) (OfSessions (Accepted given.0 given.1)) self.new) (self.new ≡ self.old) result }
+        ensures { IsAnswered (session_refusal self.old.server self.old.sessions Accept)
+            (λ given.
+            IsDone self.old (BySessions Accept) (OfSessions (Accepted given.0 given.1)) self.new)
+            (self.new ≡ self.old) result }
     {
         self.sessions.accept()
     }
 
     /// [`Sessions::cut`]; the peer of a kept session is not up any more.
     pub fn cut(&mut self, session: SessionId) -> Result<Option<usize>, SessionFault>
-        ensures { IsDecided (session_refusal self.old.server self.old.sessions (Cut session)) (λ peer. IsDone self.old (BySessions (Cut session)) (OfSessions (WasCut peer)) self.new) (self.new ≡ self.old) result }
+        ensures { IsDecided (session_refusal self.old.server self.old.sessions (Cut session))
+            (λ peer. IsDone self.old (BySessions (Cut session)) (OfSessions (WasCut peer)) self.new)
+            (self.new ≡ self.old) result }
     {
         match self.sessions.cut(session) {
             Err(fault) => Err(fault),
@@ -187,7 +222,12 @@ impl HubWithSessions {
         session: SessionId,
         info: &RouteInfo,
     ) -> Result<(Kept, RouteConnect), Failure<SessionFault>>
-        ensures { let e = OnInfo session info.now (seen_name self.old info.now.server_name) in IsAnswered (session_refusal self.old.server self.old.sessions e) (λ done. IsDone self.old (BySessions e) (OfSessions (KeptAfterInfo done.0.instead_of done.1)) self.new) (self.new ≡ self.old) result }
+        ensures { let e = OnInfo session info.now (seen_name self.old info.now.server_name) in
+            IsAnswered (session_refusal self.old.server self.old.sessions e)
+            (λ done.
+            IsDone self.old (BySessions e) (OfSessions (KeptAfterInfo done.0.instead_of done.1))
+            self.new)
+            (self.new ≡ self.old) result }
     {
         let least = seen_of(&self.hub, info.server_name());
         if let Some(fault) = self.sessions.info_fault(session, info, least) {
@@ -216,7 +256,11 @@ impl HubWithSessions {
         session: SessionId,
         connect: &RouteConnect,
     ) -> Result<Kept, Failure<SessionFault>>
-        ensures { let e = OnConnect session connect.now (seen_name self.old connect.now.server_name) in IsAnswered (session_refusal self.old.server self.old.sessions e) (λ kept. IsDone self.old (BySessions e) (OfSessions (WasKept kept.instead_of)) self.new) (self.new ≡ self.old) result }
+        ensures { let e =
+            OnConnect session connect.now (seen_name self.old connect.now.server_name) in
+            IsAnswered (session_refusal self.old.server self.old.sessions e)
+            (λ kept. IsDone self.old (BySessions e) (OfSessions (WasKept kept.instead_of)) self.new)
+            (self.new ≡ self.old) result }
     {
         let least = seen_of(&self.hub, connect.server_name());
         if let Some(fault) = self.sessions.connect_fault(session, connect, least) {
@@ -245,7 +289,13 @@ impl HubWithSessions {
         shard: u64,
         deltas: &[Delta],
     ) -> Result<CollectResult, Failure<HubFault>>
-        ensures { IsAnswered (hub_refusal self.old.server self.old.hub (Collect shard deltas.now)) (λ told. IsDone self.old (ByHub (Collect shard deltas.now)) (OfHub (Collected told.changes.items (collect_frames self.old.server self.old.hub deltas.now) told.cut.items)) self.new) (self.new ≡ self.old) result }
+        ensures { IsAnswered (hub_refusal self.old.server self.old.hub (Collect shard deltas.now))
+            (λ told.
+            IsDone self.old (ByHub (Collect shard deltas.now))
+            (OfHub (Collected told.changes.items
+            (collect_frames self.old.server self.old.hub deltas.now) told.cut.items))
+            self.new)
+            (self.new ≡ self.old) result }
     {
         let told = match tell(&mut self.hub, shard, deltas) {
             Ok(told) => told,
@@ -257,7 +307,11 @@ impl HubWithSessions {
 
     /// [`Hub::drain`]; the sessions that are kept with peers that are cut end. Gives the places of those.
     pub fn drain(&mut self) -> Result<Vec<usize>, Failure<HubFault>>
-        ensures { IsAnswered (hub_refusal self.old.server self.old.hub Drain) (λ cut. IsDone self.old (ByHub Drain) (OfHub (Drained (drain_frames self.old.server self.old.hub) cut.items)) self.new) (self.new ≡ self.old) result }
+        ensures { IsAnswered (hub_refusal self.old.server self.old.hub Drain)
+            (λ cut.
+            IsDone self.old (ByHub Drain)
+            (OfHub (Drained (drain_frames self.old.server self.old.hub) cut.items)) self.new)
+            (self.new ≡ self.old) result }
     {
         let cut = match self.hub.drain() {
             Ok(cut) => cut,
@@ -274,7 +328,12 @@ impl HubWithSessions {
         finished: &Finished,
     ) -> Result<(), Failure<HubFault>>
         requires { has_message frame.now.body ≡ false }
-        ensures { IsAnswered (hub_refusal self.old.server self.old.hub (Receive frame.now finished.now)) (λ _. IsDone self.old (ByHub (Receive frame.now finished.now)) (OfHub (Heard frame.now.number)) self.new) (self.new ≡ self.old) result }
+        ensures { IsAnswered
+            (hub_refusal self.old.server self.old.hub (Receive frame.now finished.now))
+            (λ _.
+            IsDone self.old (ByHub (Receive frame.now finished.now))
+            (OfHub (Heard frame.now.number)) self.new)
+            (self.new ≡ self.old) result }
     {
         let _me = self.hub.server().me();
         let seen = seen_of(&self.hub, frame.from());
@@ -304,7 +363,10 @@ impl HubWithSessions {
         peer: usize,
         count: usize,
     ) -> Result<Vec<Numbered>, Failure<HubFault>>
-        ensures { IsAnswered (hub_refusal self.old.server self.old.hub (TakeFrom peer count)) (λ frames. IsDone self.old (ByHub (TakeFrom peer count)) (OfHub (Taken frames.items)) self.new) (self.new ≡ self.old) result }
+        ensures { IsAnswered (hub_refusal self.old.server self.old.hub (TakeFrom peer count))
+            (λ frames.
+            IsDone self.old (ByHub (TakeFrom peer count)) (OfHub (Taken frames.items)) self.new)
+            (self.new ≡ self.old) result }
     {
         self.hub.take_route(peer, count)
     }
@@ -312,7 +374,8 @@ impl HubWithSessions {
     /// [`Hub::commit_publish`].
     pub fn commit_publish(&mut self, frames: Vec<Numbered>)
         requires { IsPlanned self.old.server self.old.hub frames.items }
-        ensures { self.new ≡ record self.old { hub = after_frames self.old.server self.old.hub frames.items } }
+        ensures { self.new
+            ≡ record self.old { hub = after_frames self.old.server self.old.hub frames.items } }
     {
         self.hub.commit_publish(frames);
     }

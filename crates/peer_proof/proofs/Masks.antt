@@ -20,7 +20,10 @@ masked_more bytes block mask count below is =
           (rw get_or-set_same refl);
     }
 
-pub all_masked : (bytes block : List ℕ) (mask : ℕ) → length block ≡ 64 → IsMasked bytes block mask 64 → bytes ≡ masked mask block
+pub all_masked : (bytes block : List ℕ) (mask : ℕ)
+    → length block ≡ 64
+    → IsMasked bytes block mask 64
+    → bytes ≡ masked mask block
 all_masked bytes block mask size is =
     let mask_byte : ℕ → ℕ = λ byte. bit_xor byte mask in
     same_number_lists bytes (map mask_byte block) (is.whole ∙ sym (length-map block mask_byte ∙ size))

@@ -46,16 +46,52 @@ apart parties others same = let h : 6 ≡ 8 = ap head_of same in cc
 same_parties : (parties others : Parties) → parties.dialer ≡ others.dialer → parties.acceptor ≡ others.acceptor →
     parties.dialer_word.0 ≡ others.dialer_word.0 → parties.acceptor_word.0 ≡ others.acceptor_word.0 → parties ≡ others
 same_parties parties others a b c d =
-    ap (λ (x : List ℕ). let p : Parties = record { dialer = x; acceptor = parties.acceptor; dialer_word = parties.dialer_word; acceptor_word = parties.acceptor_word } in p) a
-    ∙ ap (λ (x : List ℕ). let p : Parties = record { dialer = others.dialer; acceptor = x; dialer_word = parties.dialer_word; acceptor_word = parties.acceptor_word } in p) b
-    ∙ ap (λ (x : List ℕ). let p : Parties = record { dialer = others.dialer; acceptor = others.acceptor; dialer_word = record { 0 = x }; acceptor_word = parties.acceptor_word } in p) c
-    ∙ ap (λ (x : List ℕ). let p : Parties = record { dialer = others.dialer; acceptor = others.acceptor; dialer_word = others.dialer_word; acceptor_word = record { 0 = x } } in p) d
+    ap (λ (x : List ℕ).
+    let p : Parties = record {
+      dialer = x;
+      acceptor = parties.acceptor;
+      dialer_word = parties.dialer_word;
+      acceptor_word = parties.acceptor_word;
+    } in
+    p)
+    a
+    ∙ ap (λ (x : List ℕ).
+    let p : Parties = record {
+      dialer = others.dialer;
+      acceptor = x;
+      dialer_word = parties.dialer_word;
+      acceptor_word = parties.acceptor_word;
+    } in
+    p)
+    b
+    ∙ ap (λ (x : List ℕ).
+    let p : Parties = record {
+      dialer = others.dialer;
+      acceptor = others.acceptor;
+      dialer_word = record { 0 = x };
+      acceptor_word = parties.acceptor_word;
+    } in
+    p)
+    c
+    ∙ ap (λ (x : List ℕ).
+    let p : Parties = record {
+      dialer = others.dialer;
+      acceptor = others.acceptor;
+      dialer_word = others.dialer_word;
+      acceptor_word = record { 0 = x };
+    } in
+    p)
+    d
 
 pub one_meaning : (role other_role : Role) (parties others : Parties) →
     message_of role parties ≡ message_of other_role others → (role ≡ other_role) × (parties ≡ others)
 one_meaning role other_role parties others same =
-    let whole = sym (in_order (part (role_word role)) (part parties.dialer) (part parties.acceptor) (part parties.dialer_word.0) (part parties.acceptor_word.0))
-    ∙ same ∙ in_order (part (role_word other_role)) (part others.dialer) (part others.acceptor) (part others.dialer_word.0) (part others.acceptor_word.0) in
+    let whole =
+    sym (in_order (part (role_word role)) (part parties.dialer) (part parties.acceptor) (part parties.dialer_word.0)
+    (part parties.acceptor_word.0))
+    ∙ same
+    ∙ in_order (part (role_word other_role)) (part others.dialer) (part others.acceptor) (part others.dialer_word.0)
+    (part others.acceptor_word.0) in
     let roles = first_part _ _ _ _ whole in
     let dialers = first_part _ _ _ _ roles.1 in
     let acceptors = first_part _ _ _ _ dialers.1 in

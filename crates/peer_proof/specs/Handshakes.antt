@@ -35,7 +35,9 @@ parties_of dialer answer = record {
 -- the acceptor has to prove that it is whom the dialer has dialed; then the dialer proves itself
 abbrev pub dialer_judges : List ℕ → Parties → Mac → Result Mac ProofFault
 dialer_judges block parties mac =
-    if bytes_eq mac.0 (mac_of block role.Acceptor parties) then Ok (record { 0 = mac_of block role.Dialer parties }) else Err WrongProof
+    if bytes_eq mac.0 (mac_of block role.Acceptor parties)
+    then Ok (record { 0 = mac_of block role.Dialer parties })
+    else Err WrongProof
 
 abbrev pub dialer_takes : List ℕ → Dialer → Option Answer → Result Mac ProofFault
 dialer_takes block dialer None = Err NoProof
@@ -55,7 +57,8 @@ is_other_server life name = is_peer_at life (position (λ other. bytes_eq other 
 
 abbrev pub hello_fault : ServerIdentity → Hello → Option ProofFault
 hello_fault life hello =
-    if bytes_eq hello.you (own_name life) then (if is_other_server life hello.me then None else Some NotInMesh)
+    if bytes_eq hello.you (own_name life)
+    then (if is_other_server life hello.me then None else Some NotInMesh)
     else Some NotForMe
 
 abbrev pub parties_with : Hello → FreshWord → Parties
@@ -67,15 +70,21 @@ parties_with hello word = record {
 }
 
 abbrev pub answer_by : List ℕ → Parties → Answer
-answer_by block parties = record { word = parties.acceptor_word; mac = record { 0 = mac_of block role.Acceptor parties } }
+answer_by block parties = record {
+  word = parties.acceptor_word;
+  mac = record { 0 = mac_of block role.Acceptor parties };
+}
 
 abbrev pub hello_comes_to : List ℕ → Parties → Option ProofFault → Result Heard ProofFault
 hello_comes_to block parties (Some fault) = Err fault
-hello_comes_to block parties None = Ok (heard.Hello (acceptor.AwaitsProof parties) (answer_by block parties))
+hello_comes_to block parties None =
+    Ok (heard.Hello (acceptor.AwaitsProof parties) (answer_by block parties))
 
-abbrev pub takes_hello : List ℕ → ServerIdentity → FreshWord → Option Hello → Result Heard ProofFault
+abbrev pub takes_hello : List ℕ → ServerIdentity → FreshWord → Option Hello
+    → Result Heard ProofFault
 takes_hello block life word None = Err NoHello
-takes_hello block life word (Some hello) = hello_comes_to block (parties_with hello word) (hello_fault life hello)
+takes_hello block life word (Some hello) =
+    hello_comes_to block (parties_with hello word) (hello_fault life hello)
 
 abbrev pub hears_hello : List ℕ → ServerIdentity → FreshWord → List ℕ → Result Heard ProofFault
 hears_hello block life word line = takes_hello block life word (hello_of line)
@@ -84,7 +93,8 @@ hears_hello block life word line = takes_hello block life word (hello_of line)
 abbrev pub takes_proof : List ℕ → Parties → Option Mac → Result Heard ProofFault
 takes_proof block parties None = Err NoProof
 takes_proof block parties (Some mac) =
-    if bytes_eq mac.0 (mac_of block role.Dialer parties) then Ok (heard.Proved parties.dialer) else Err WrongProof
+    if bytes_eq mac.0 (mac_of block role.Dialer parties) then Ok (heard.Proved parties.dialer)
+    else Err WrongProof
 
 abbrev pub hears_proof : List ℕ → Parties → List ℕ → Result Heard ProofFault
 hears_proof block parties line = takes_proof block parties (proof_of line)

@@ -15,10 +15,12 @@ abbrev pub spaced : List ℕ → List ℕ
 spaced field = 32 ∷ field
 
 abbrev pub hello_line : Hello → List ℕ
-hello_line hello = codes "HELLO" ++ spaced hello.me ++ spaced hello.you ++ spaced (encode_lower hello.word.0)
+hello_line hello =
+    codes "HELLO" ++ spaced hello.me ++ spaced hello.you ++ spaced (encode_lower hello.word.0)
 
 abbrev pub answer_line : Answer → List ℕ
-answer_line answer = codes "PROOF" ++ spaced (encode_lower answer.word.0) ++ spaced (encode_lower answer.mac.0)
+answer_line answer =
+    codes "PROOF" ++ spaced (encode_lower answer.word.0) ++ spaced (encode_lower answer.mac.0)
 
 abbrev pub proof_line : Mac → List ℕ
 proof_line mac = codes "PROOF" ++ spaced (encode_lower mac.0)
@@ -60,7 +62,8 @@ abbrev pub name_in : List ℕ → Option (List ℕ)
 name_in field = name_by field (node_name_fault field)
 
 abbrev pub hello_with : Option (List ℕ) → Option (List ℕ) → Option (List ℕ) → Option Hello
-hello_with (Some me) (Some you) (Some word) = Some (record { me = me; you = you; word = record { 0 = word } })
+hello_with (Some me) (Some you) (Some word) =
+    Some (record { me = me; you = you; word = record { 0 = word } })
 hello_with (Some me) (Some you) None = None
 hello_with (Some me) None word = None
 hello_with None you word = None
@@ -77,7 +80,8 @@ abbrev pub hello_of : List ℕ → Option Hello
 hello_of line = hello_in (fields_behind (codes "HELLO") (line_fields line))
 
 abbrev pub answer_with : Option (List ℕ) → Option (List ℕ) → Option Answer
-answer_with (Some word) (Some mac) = Some (record { word = record { 0 = word }; mac = record { 0 = mac } })
+answer_with (Some word) (Some mac) =
+    Some (record { word = record { 0 = word }; mac = record { 0 = mac } })
 answer_with (Some word) None = None
 answer_with None mac = None
 

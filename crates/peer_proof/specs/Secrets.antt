@@ -6,7 +6,9 @@ use Rattle.peer_proof.specs.declared.secret.TheConstants.{LEAST_SECRET, MOST_SEC
 
 -- a single line feed at the end of a file is not part of its secret
 abbrev pub without_newline : List ℕ → List ℕ
-without_newline bytes = if nat_eq (slice_index bytes (length bytes - 1)) 10 then take (length bytes - 1) bytes else bytes
+without_newline bytes =
+    if nat_eq (slice_index bytes (length bytes - 1)) 10 then take (length bytes - 1) bytes
+    else bytes
 
 abbrev pub secret_fault : List ℕ → Option SecretFault
 secret_fault key =

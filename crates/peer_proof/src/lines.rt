@@ -46,7 +46,8 @@ fn behind<'a>(word: &[u8], line: &'a [u8]) -> Option<&'a [u8]>
 
 /// The only field of a text; None where there are others or none.
 fn one_field(text: &[u8]) -> Option<&[u8]>
-    ensures { MatchOption result (one_in (fields text.now) ≡ None) (λ field. one_in (fields text.now) ≡ Some field.now) }
+    ensures { MatchOption result (one_in (fields text.now) ≡ None)
+        (λ field. one_in (fields text.now) ≡ Some field.now) }
 {
     let (field, rest) = split_field(text)?;
     match split_field(rest) {

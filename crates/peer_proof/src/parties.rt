@@ -44,7 +44,9 @@ pub struct Parties {
 /// Puts a part behind what is authenticated: how many bytes it has, as one byte, and its bytes.
 fn put_part(hasher: &mut Sha256, bytes: &[u8])
     requires { length bytes.now ≤ 255 }
-    ensures { (whole : List ℕ) → Holds256 hasher.old whole → Holds256 hasher.new (whole ++ part bytes.now) }
+    ensures { (whole : List ℕ)
+        → Holds256 hasher.old whole
+        → Holds256 hasher.new (whole ++ part bytes.now) }
 {
     let size = [bytes.len() as u8];
     hasher.update(&size);

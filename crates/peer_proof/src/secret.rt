@@ -58,7 +58,8 @@ impl Secret {
     /// and all others are. Refused where it has fewer than [`LEAST_SECRET`] bytes, or more than [`MOST_SECRET`]. Takes no memory.
     pub fn read(bytes: &[u8]) -> Result<Secret, SecretFault>
         ensures { let key = key_in bytes.now in
-            MatchResult result (λ secret. (secret_fault key ≡ None) × (secret ≡ block_of key)) (λ fault. secret_fault key ≡ Some fault) }
+            MatchResult result (λ secret. (secret_fault key ≡ None) × (secret ≡ block_of key))
+            (λ fault. secret_fault key ≡ Some fault) }
     {
         let key = without_newline(bytes);
         if let Some(fault) = fault_of(key) {

@@ -62,7 +62,8 @@ publication_is a b e =
 pub publication_itself : (a : PubId) → is_publication a a ≡ true
 publication_itself a =
     tie_both (ordering_then (slice_cmp nat_cmp a.origin a.origin) (nat_cmp a.inc a.inc)) (nat_cmp a.number a.number)
-    (tie_both (slice_cmp nat_cmp a.origin a.origin) (nat_cmp a.inc a.inc) (name_itself a.origin) (number_itself a.inc)) (number_itself a.number)
+    (tie_both (slice_cmp nat_cmp a.origin a.origin) (nat_cmp a.inc a.inc) (name_itself a.origin) (number_itself a.inc))
+    (number_itself a.number)
 
 pub life_is : (a b : LifeId) → is_life a b ≡ true → a ≡ b
 life_is a b e =
@@ -82,7 +83,9 @@ life_itself a =
     let server = ordering_then (nat_cmp a.node a.node) (nat_cmp a.inc a.inc) in
     let shard = ordering_then server (nat_cmp a.sub.shard a.sub.shard) in
     tie_both shard (nat_cmp a.sub.serial a.sub.serial)
-    (tie_both server (nat_cmp a.sub.shard a.sub.shard) (tie_both (nat_cmp a.node a.node) (nat_cmp a.inc a.inc) (number_itself a.node) (number_itself a.inc)) (number_itself a.sub.shard))
+    (tie_both server (nat_cmp a.sub.shard a.sub.shard)
+    (tie_both (nat_cmp a.node a.node) (nat_cmp a.inc a.inc) (number_itself a.node) (number_itself a.inc))
+    (number_itself a.sub.shard))
     (number_itself a.sub.serial)
 
 -- ---- for what a publication is placed once
@@ -119,16 +122,23 @@ once_is a b e =
 
 pub once_itself : (a : Once) → is_once a a ≡ true
 once_itself a =
-    tie_both (ordering_then (publication_cmp a.id a.id) (option_cmp life_cmp a.life a.life)) (option_cmp (slice_cmp nat_cmp) a.queue a.queue)
-    (tie_both (publication_cmp a.id a.id) (option_cmp life_cmp a.life a.life) (publication_itself a.id) (life_if_itself a.life)) (name_if_itself a.queue)
+    tie_both (ordering_then (publication_cmp a.id a.id) (option_cmp life_cmp a.life a.life))
+    (option_cmp (slice_cmp nat_cmp) a.queue a.queue)
+    (tie_both (publication_cmp a.id a.id) (option_cmp life_cmp a.life a.life) (publication_itself a.id)
+    (life_if_itself a.life))
+    (name_if_itself a.queue)
 
 -- ---- as the code has them
 
-option_same : (a b : Option code.LifeId) → option_cmp life_cmp (option_map life_id_of a) (option_map life_id_of b) ≡ option_cmp code_life_cmp a b
+option_same : (a b : Option code.LifeId)
+    → option_cmp life_cmp (option_map life_id_of a) (option_map life_id_of b) ≡ option_cmp code_life_cmp a b
 option_same None None = refl
 option_same None (Some b) = refl
 option_same (Some a) None = refl
 option_same (Some a) (Some b) = refl
 
 pub same_order : (a b : Served) → once_cmp (named_once a) (named_once b) ≡ served_cmp a b
-same_order a b = ap (λ o. ordering_then (ordering_then (publication_cmp a.id b.id) o) (option_cmp (slice_cmp nat_cmp) a.queue b.queue)) (option_same a.life b.life)
+same_order a b =
+    ap
+    (λ o. ordering_then (ordering_then (publication_cmp a.id b.id) o) (option_cmp (slice_cmp nat_cmp) a.queue b.queue))
+    (option_same a.life b.life)

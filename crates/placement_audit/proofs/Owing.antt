@@ -66,11 +66,14 @@ due_is source life p e =
       bytes = sym (same_bytes (due_bytes source.message life.sid p.headers) p.bytes whole.1);
     }
 
-pub owed_is : (publications : List Publication) (lives : List Life) (p : Placement) → is_owed publications lives p ≡ true → IsOwed publications lives p
+pub owed_is : (publications : List Publication) (lives : List Life) (p : Placement)
+    → is_owed publications lives p ≡ true
+    → IsOwed publications lives p
 owed_is publications lives p e =
     let is_source : Publication → Bool = λ s. is_publication s.id p.id in
     let is_its : Life → Bool = λ l. is_life l.id p.life in
-    let s = any_in (λ (source : Publication). any_due source p (filter is_its lives)) (filter is_source publications) e in
+    let s =
+    any_in (λ (source : Publication). any_due source p (filter is_its lives)) (filter is_source publications) e in
     let l = any_in (λ (life : Life). is_due s.0 life p) (filter is_its lives) s.2 in
     let source = in_filter is_source publications s.0 s.1 in
     let life = in_filter is_its lives l.0 l.1 in
@@ -115,18 +118,35 @@ due_holds source life p d =
     let matching = subject_matches life.key.pattern source.message.subject in
     let moded = is_mode life.key.queue p.mode && matching in
     let connected = nat_eq life.conn p.conn && moded in
-    let mode : is_mode life.key.queue p.mode ≡ true = ap (is_mode life.key.queue) (sym d.mode) ∙ mode_holds life.key.queue in
-    let open_so = both_hold (nat_lt life.opened p.step) (is_not_before p.step life.closed) (lt_holds life.opened p.step d.opened) (still_holds p.step life.closed d.still) in
-    let fits =
-    both_hold (nat_lt source.step p.step) (is_open life p.step && connected) (lt_holds source.step p.step d.earlier)
-    (both_hold (is_open life p.step) connected open_so (both_hold (nat_eq life.conn p.conn) moded (true_eq life.conn p.conn d.conn) (both_hold (is_mode life.key.queue p.mode) matching mode d.matches))) in
-    both_hold (is_for source life p) (bytes_eq (due_bytes source.message life.sid p.headers) p.bytes) fits (bytes_hold (due_bytes source.message life.sid p.headers) p.bytes (sym d.bytes))
+    let mode : is_mode life.key.queue p.mode ≡ true =
+    ap (is_mode life.key.queue) (sym d.mode) ∙ mode_holds life.key.queue in
+    let open_so = both_hold (nat_lt life.opened p.step) (is_not_before p.step life.closed)
+    (lt_holds life.opened p.step d.opened) (still_holds p.step life.closed d.still) in
+    let fits = both_hold (nat_lt source.step p.step) (is_open life p.step && connected)
+    (lt_holds source.step p.step d.earlier)
+    (both_hold (is_open life p.step) connected open_so
+    (both_hold (nat_eq life.conn p.conn) moded (true_eq life.conn p.conn d.conn)
+    (both_hold (is_mode life.key.queue p.mode) matching mode d.matches))) in
+    both_hold (is_for source life p) (bytes_eq (due_bytes source.message life.sid p.headers) p.bytes) fits
+    (bytes_hold (due_bytes source.message life.sid p.headers) p.bytes (sym d.bytes))
 
-pub owed_holds : (publications : List Publication) (lives : List Life) (p : Placement) → IsOwed publications lives p → is_owed publications lives p ≡ true
+pub owed_holds : (publications : List Publication) (lives : List Life) (p : Placement)
+    → IsOwed publications lives p
+    → is_owed publications lives p ≡ true
 owed_holds publications lives p o =
     let is_source : Publication → Bool = λ s. is_publication s.id p.id in
     let is_its : Life → Bool = λ l. is_life l.id p.life in
-    let due : IsDue o.source o.life p = record { earlier = o.earlier; opened = o.opened; still = o.still; conn = o.conn; mode = o.mode; matches = o.matches; bytes = o.bytes } in
-    let source = filter_in is_source publications o.source o.source_in (ap (λ a. is_publication a p.id) o.id ∙ publication_itself p.id) in
+    let due : IsDue o.source o.life p = record {
+      earlier = o.earlier;
+      opened = o.opened;
+      still = o.still;
+      conn = o.conn;
+      mode = o.mode;
+      matches = o.matches;
+      bytes = o.bytes;
+    } in
+    let source = filter_in is_source publications o.source o.source_in
+    (ap (λ a. is_publication a p.id) o.id ∙ publication_itself p.id) in
     let life = filter_in is_its lives o.life o.life_in (ap (λ a. is_life a p.life) o.life_id ∙ life_itself p.life) in
-    in_any (λ (s : Publication). any_due s p (filter is_its lives)) (filter is_source publications) o.source source (in_any (λ (l : Life). is_due o.source l p) (filter is_its lives) o.life life (due_holds o.source o.life p due))
+    in_any (λ (s : Publication). any_due s p (filter is_its lives)) (filter is_source publications) o.source source
+    (in_any (λ (l : Life). is_due o.source l p) (filter is_its lives) o.life life (due_holds o.source o.life p due))

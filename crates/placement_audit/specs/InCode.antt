@@ -1,4 +1,5 @@
--- Placements as the code has them, and as the definitions do; and entries of the lists that are lent.
+-- Placements as the code has them, and as the definitions do; and entries of the lists that are
+-- lent.
 use Rattle.std.specs.Borrow.{Bor}
 use Rattle.cluster_world.specs.declared.records.Life.{Life}
 use Rattle.cluster_world.specs.declared.records.Publication.{Publication}
@@ -7,7 +8,15 @@ use Rattle.world_law.specs.State as state
 use Rattle.placement_audit.specs.declared.placements.Placement.{Placement}
 
 abbrev pub placement_of : Placement → state.Placement
-placement_of p = record { step = p.step; life = life_id_of p.life; conn = p.conn; id = p.id; mode = p.mode; bytes = p.bytes.items; headers = p.headers }
+placement_of p = record {
+  step = p.step;
+  life = life_id_of p.life;
+  conn = p.conn;
+  id = p.id;
+  mode = p.mode;
+  bytes = p.bytes.items;
+  headers = p.headers;
+}
 
 abbrev pub lent_publication : Bor Publication → state.Publication
 lent_publication p = publication_of p.now

@@ -19,14 +19,22 @@ entries_in None = []
 entries_in (Some list) = list.items
 
 -- what stands under the key, keys being compared by cmp
-abbrev pub named_at : {K T : Type 0} → (K → K → Ordering) → BTreeMap K (Vec (Bor T) Global) → K → List (Bor T)
+abbrev pub named_at : {K T : Type 0} → (K → K → Ordering) → BTreeMap K (Vec (Bor T) Global) → K
+    → List (Bor T)
 named_at cmp named key = entries_in (get cmp named key)
 
 -- under each name stand the publications that have it, in order
-abbrev pub AreSources : BTreeMap PublicationKey (Vec (Bor Publication) Global) → List state.Publication → Type 0
+abbrev pub AreSources : BTreeMap PublicationKey (Vec (Bor Publication) Global)
+    → List state.Publication
+    → Type 0
 AreSources sources publications =
-    (key : PublicationKey) → map lent_publication (named_at publication_key_cmp sources key) ≡ filter (λ (s : state.Publication). is_publication s.id key.id) publications
+    (key : PublicationKey)
+    → map lent_publication (named_at publication_key_cmp sources key)
+    ≡ filter (λ (s : state.Publication). is_publication s.id key.id) publications
 
 -- and the subscriptions that have it
 abbrev pub AreLives : BTreeMap LifeKey (Vec (Bor Life) Global) → List state.Life → Type 0
-AreLives named lives = (key : LifeKey) → map lent_life (named_at life_key_cmp named key) ≡ filter (λ (l : state.Life). is_life l.id (life_id_of key.id)) lives
+AreLives named lives =
+    (key : LifeKey)
+    → map lent_life (named_at life_key_cmp named key)
+    ≡ filter (λ (l : state.Life). is_life l.id (life_id_of key.id)) lives

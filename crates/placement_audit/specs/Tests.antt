@@ -27,10 +27,13 @@ is_open life step = nat_lt life.opened step && is_not_before step life.closed
 abbrev pub is_for : Publication → Life → Placement → Bool
 is_for source life p =
     nat_lt source.step p.step
-    && (is_open life p.step && (nat_eq life.conn p.conn && (is_mode life.key.queue p.mode && subject_matches life.key.pattern source.message.subject)))
+    && (is_open life p.step
+    && (nat_eq life.conn p.conn
+    && (is_mode life.key.queue p.mode && subject_matches life.key.pattern source.message.subject)))
 
 abbrev pub is_due : Publication → Life → Placement → Bool
-is_due source life p = is_for source life p && bytes_eq (due_bytes source.message life.sid p.headers) p.bytes
+is_due source life p =
+    is_for source life p && bytes_eq (due_bytes source.message life.sid p.headers) p.bytes
 
 abbrev pub any_due : Publication → Placement → List Life → Bool
 any_due source p lives = list_any (λ (life : Life). is_due source life p) lives
@@ -40,9 +43,12 @@ any_owed p lives sources = list_any (λ (source : Publication). any_due source p
 
 -- of those that have the names that the placement has
 abbrev pub is_owed : List Publication → List Life → Placement → Bool
-is_owed publications lives p = any_owed p (filter (λ (l : Life). is_life l.id p.life) lives) (filter (λ (s : Publication). is_publication s.id p.id) publications)
+is_owed publications lives p =
+    any_owed p (filter (λ (l : Life). is_life l.id p.life) lives)
+    (filter (λ (s : Publication). is_publication s.id p.id) publications)
 
--- ---- whether none before it was of the same publication for the same plain subscription or queue name
+-- ---- whether none before it was of the same publication for the same plain subscription or queue
+-- name
 
 -- one of these is of this publication for this
 abbrev pub is_placed_for : List Placement → Once → Bool
@@ -50,7 +56,8 @@ is_placed_for done key = list_any (λ (q : Placement). is_once (key_of q) key) d
 
 -- its subscription may have had a queue name, and have been told as plain before
 abbrev pub is_first : List Placement → Placement → Bool
-is_first done p = not (is_placed_for done (plain_key p.id p.life)) && not (is_placed_for done (key_of p))
+is_first done p =
+    not (is_placed_for done (plain_key p.id p.life)) && not (is_placed_for done (key_of p))
 
 -- ---- whether it keeps the clause behind these
 

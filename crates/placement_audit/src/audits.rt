@@ -24,7 +24,11 @@ fn judge(
     seen: &mut BTreeSet<Served>,
     placement: &Placement,
 ) -> Result<bool, AllocError>
-    ensures { (ps : List Source) (ls : List Opened) (done : List Placing) → AreSources sources.now ps → AreLives lives.now ls → AreSeen seen.old done → IfOk result (IsJudged ps ls done (placement_of placement.now) seen.new) }
+    ensures { (ps : List Source) (ls : List Opened) (done : List Placing)
+        → AreSources sources.now ps
+        → AreLives lives.now ls
+        → AreSeen seen.old done
+        → IfOk result (IsJudged ps ls done (placement_of placement.now) seen.new) }
 {
     if !is_owed(alloc, sources, lives, placement)? {
         return Ok(false);
@@ -39,7 +43,10 @@ fn first_breach(
     lives: &Lives<'_>,
     placements: &[Placement],
 ) -> Result<Option<u64>, AllocError>
-    ensures { (ps : List Source) (ls : List Opened) → AreSources sources.now ps → AreLives lives.now ls → IfOk result (IsVerdict ps ls (map placement_of placements.now)) }
+    ensures { (ps : List Source) (ls : List Opened)
+        → AreSources sources.now ps
+        → AreLives lives.now ls
+        → IfOk result (IsVerdict ps ls (map placement_of placements.now)) }
 {
     let mut seen = BTreeSet::new(alloc);
     for place in 0..placements.len() {
@@ -67,7 +74,8 @@ pub fn audit(
     lives: &[Life],
     placements: &[Placement],
 ) -> Result<Option<u64>, AllocError>
-    ensures { IfOk result (IsVerdict (map publication_of publications.now) (map life_of lives.now) (map placement_of placements.now)) }
+    ensures { IfOk result (IsVerdict (map publication_of publications.now) (map life_of lives.now)
+        (map placement_of placements.now)) }
 {
     let sources = by_publication(alloc, publications)?;
     let lives = by_life(alloc, lives)?;

@@ -45,7 +45,8 @@ fn is_open_at(life: &Life, step: u64) -> bool
 
 /// Whether the placement is as the publication and the subscription want it, but for its bytes.
 fn is_for(source: &Publication, life: &Life, placement: &Placement) -> bool
-    ensures { result ≡ is_right_for (publication_of source.now) (life_of life.now) (placement_of placement.now) }
+    ensures { result
+        ≡ is_right_for (publication_of source.now) (life_of life.now) (placement_of placement.now) }
 {
     source.step < placement.step
         && is_open_at(life, placement.step)
@@ -61,7 +62,8 @@ fn due_bytes(
     life: &Life,
     takes_headers: bool,
 ) -> Result<Vec<u8>, AllocError>
-    ensures { IfOk result (λ bytes. bytes.items ≡ all_due source.now.message life.now.sid takes_headers) }
+    ensures { IfOk result (λ bytes.
+        bytes.items ≡ all_due source.now.message life.now.sid takes_headers) }
 {
     let mut bytes = message_line(alloc, &source.message, &life.sid, takes_headers)?;
     bytes.extend_from_slice(CR_LF)?;
@@ -77,7 +79,9 @@ fn is_due(
     life: &Life,
     placement: &Placement,
 ) -> Result<bool, AllocError>
-    ensures { IfOk result (λ is. is ≡ is_all_due (publication_of source.now) (life_of life.now) (placement_of placement.now)) }
+    ensures { IfOk result (λ is.
+        is
+        ≡ is_all_due (publication_of source.now) (life_of life.now) (placement_of placement.now)) }
 {
     if !is_for(source, life, placement) {
         return Ok(false);
@@ -93,7 +97,10 @@ fn any_due(
     lives: &[&Life],
     placement: &Placement,
 ) -> Result<bool, AllocError>
-    ensures { IfOk result (λ is. is ≡ any_life (publication_of source.now) (placement_of placement.now) (map lent_life lives.now)) }
+    ensures { IfOk result (λ is.
+        is
+        ≡ any_life (publication_of source.now) (placement_of placement.now)
+        (map lent_life lives.now)) }
 {
     for life in lives {
         if is_due(alloc, source, *life, placement)? {
@@ -110,7 +117,10 @@ pub(crate) fn any_owed(
     lives: &[&Life],
     placement: &Placement,
 ) -> Result<bool, AllocError>
-    ensures { IfOk result (λ is. is ≡ any_source (placement_of placement.now) (map lent_life lives.now) (map lent_publication sources.now)) }
+    ensures { IfOk result (λ is.
+        is
+        ≡ any_source (placement_of placement.now) (map lent_life lives.now)
+        (map lent_publication sources.now)) }
 {
     for source in sources {
         if any_due(alloc, *source, lives, placement)? {

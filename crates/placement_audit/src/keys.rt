@@ -137,7 +137,8 @@ impl Eq for PublicationKey {
 impl PartialOrd for PublicationKey {
     ghost partial_cmp = { as_partial_cmp publication_key_cmp };
 
-    ghost laws = { partial_order_from_agreeing_total publication_key_cmp publication_key_total (λ x y. refl) (λ x y. refl) };
+    ghost laws = { partial_order_from_agreeing_total publication_key_cmp publication_key_total
+        (λ x y. refl) (λ x y. refl) };
 
     fn partial_cmp(&self, other: &PublicationKey) -> Option<Ordering> {
         Some(self.cmp(other))
@@ -175,7 +176,8 @@ impl Eq for LifeKey {
 impl PartialOrd for LifeKey {
     ghost partial_cmp = { as_partial_cmp life_key_cmp };
 
-    ghost laws = { partial_order_from_agreeing_total life_key_cmp life_key_total (λ x y. refl) (λ x y. refl) };
+    ghost laws = { partial_order_from_agreeing_total life_key_cmp life_key_total (λ x y. refl)
+        (λ x y. refl) };
 
     fn partial_cmp(&self, other: &LifeKey) -> Option<Ordering> {
         Some(self.cmp(other))
@@ -213,7 +215,8 @@ impl Eq for Served {
 impl PartialOrd for Served {
     ghost partial_cmp = { as_partial_cmp served_cmp };
 
-    ghost laws = { partial_order_from_agreeing_total served_cmp served_total (λ x y. refl) (λ x y. refl) };
+    ghost laws = { partial_order_from_agreeing_total served_cmp served_total (λ x y. refl)
+        (λ x y. refl) };
 
     fn partial_cmp(&self, other: &Served) -> Option<Ordering> {
         Some(self.cmp(other))

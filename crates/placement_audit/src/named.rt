@@ -28,7 +28,10 @@ fn push_entry<'a, K: Ord + Drop, T>(
     key: K,
     entry: &'a T,
 ) -> Result<(), AllocError>
-    ensures { OnOk result ((q : K) → named_at K.cmp named.new q ≡ (if is_eq (K.cmp key q) then named_at K.cmp named.old key ++ entry.entry ∷ [] else named_at K.cmp named.old q)) }
+    ensures { OnOk result ((q : K)
+        → named_at K.cmp named.new q
+        ≡ (if is_eq (K.cmp key q) then named_at K.cmp named.old key ++ entry.entry ∷ []
+        else named_at K.cmp named.old q)) }
 {
     if let Some(list) = named.get_mut(&key) {
         if list.push(entry).is_err() {
@@ -75,7 +78,10 @@ pub(crate) fn is_owed(
     lives: &Lives<'_>,
     placement: &Placement,
 ) -> Result<bool, AllocError>
-    ensures { (ps : List Source) (ls : List Opened) → AreSources sources.now ps → AreLives lives.now ls → IfOk result (λ is. is ≡ owes ps ls (placement_of placement.now)) }
+    ensures { (ps : List Source) (ls : List Opened)
+        → AreSources sources.now ps
+        → AreLives lives.now ls
+        → IfOk result (λ is. is ≡ owes ps ls (placement_of placement.now)) }
 {
     let Some(sources) = sources.get(&PublicationKey { id: placement.id }) else {
         return Ok(false);

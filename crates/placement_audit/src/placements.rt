@@ -37,7 +37,10 @@ fn placement_in(
     put: &Placements,
     placed: &Placed,
 ) -> Result<Option<Placement>, AllocError>
-    ensures { IfOk result (λ found. option_to_list (option_map placement_of found) ≡ of_entry (placing_server put.now.node put.now.inc) put.now.step placed.now.conn placed.now.headers placed.now.entry.bytes placed.now.entry.tag) }
+    ensures { IfOk result (λ found.
+        option_to_list (option_map placement_of found)
+        ≡ of_entry (placing_server put.now.node put.now.inc) put.now.step placed.now.conn
+        placed.now.headers placed.now.entry.bytes placed.now.entry.tag) }
 {
     let Tag::Msg { id, sub, mode } = placed.entry.tag() else {
         return Ok(None);
@@ -65,7 +68,9 @@ fn push_placement(
     placements: &mut Vec<Placement>,
     placement: Option<Placement>,
 ) -> Result<(), AllocError>
-    ensures { OnOk result (map placement_of placements.new.items ≡ map placement_of placements.old.items ++ option_to_list (option_map placement_of placement)) }
+    ensures { OnOk result (map placement_of placements.new.items
+        ≡ map placement_of placements.old.items
+        ++ option_to_list (option_map placement_of placement)) }
 {
     if let Some(placement) = placement {
         placements.push(placement)?;
@@ -79,7 +84,8 @@ fn push_step(
     placements: &mut Vec<Placement>,
     put: &Placements,
 ) -> Result<(), AllocError>
-    ensures { OnOk result (map placement_of placements.new.items ≡ map placement_of placements.old.items ++ placements_in put.now) }
+    ensures { OnOk result (map placement_of placements.new.items
+        ≡ map placement_of placements.old.items ++ placements_in put.now) }
 {
     for placed in &put.entries {
         let placement = placement_in(alloc, put, placed)?;
@@ -90,7 +96,8 @@ fn push_step(
 
 /// Each message among what steps put, in order: a copy of it.
 pub fn each_placement(alloc: Global, steps: &[Placements]) -> Result<Vec<Placement>, AllocError>
-    ensures { IfOk result (λ placements. map placement_of placements.items ≡ flat_map placements_in steps.now) }
+    ensures { IfOk result (λ placements.
+        map placement_of placements.items ≡ flat_map placements_in steps.now) }
 {
     let mut placements = Vec::new(alloc);
     for put in steps {

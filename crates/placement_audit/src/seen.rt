@@ -17,7 +17,9 @@ use std::collections::BTreeSet;
 /// Puts the key in. Gives whether it was not in before.
 fn insert_new(seen: &mut BTreeSet<Served>, key: Served) -> Result<bool, AllocError>
     ensures told { IfOk result (λ is_new. is_new ≡ not (contains served_cmp seen.old key)) }
-    ensures kept { OnOk result ((q : Key) → contains served_cmp seen.new q ≡ (if is_eq (served_cmp key q) then true else contains served_cmp seen.old q)) }
+    ensures kept { OnOk result ((q : Key)
+        → contains served_cmp seen.new q
+        ≡ (if is_eq (served_cmp key q) then true else contains served_cmp seen.old q)) }
 {
     match seen.insert(key) {
         Ok(is_new) => Ok(is_new),
@@ -32,7 +34,9 @@ pub(crate) fn note_first(
     seen: &mut BTreeSet<Served>,
     placement: &Placement,
 ) -> Result<bool, AllocError>
-    ensures { (done : List Placing) → AreSeen seen.old done → IfOk result (IsNoted done (placement_of placement.now) seen.new) }
+    ensures { (done : List Placing)
+        → AreSeen seen.old done
+        → IfOk result (IsNoted done (placement_of placement.now) seen.new) }
 {
     if seen.contains(&Served::plainly(placement)) {
         return Ok(false);

@@ -6,4 +6,7 @@ use Rattle.route_values.specs.Valid.{AreNames}
 
 pub names_from_all : (names : List (List ℕ)) → All IsQueueName names → AreNames names
 names_from_all [] each = tt
-names_from_all (name ∷ names) each = (All-head IsQueueName name names each, names_from_all names (All-tail IsQueueName name names each))
+names_from_all (name ∷ names) each = (
+  All-head IsQueueName name names each,
+  names_from_all names (All-tail IsQueueName name names each),
+)

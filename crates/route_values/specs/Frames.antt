@@ -4,7 +4,8 @@ use Rattle.subj.specs.declared.limits.TheConstants.{MAX_COUNTER}
 use Rattle.route_values.specs.declared.bodies.Body.{Body}
 use Rattle.route_values.specs.declared.bodies.Body.TheVariants.{Plus, Minus, Snapshot, Msg}
 
--- who sends it, in which incarnation; to whom, and in which of its incarnations; the number; and what it says
+-- who sends it, in which incarnation; to whom, and in which of its incarnations; the number; and
+-- what it says
 pub record Frame : Type 0 where
   pub from : List ℕ
   pub inc : ℕ
@@ -25,4 +26,13 @@ is_number number body = nat_le number MAX_COUNTER && (nat_le 1 number || is_snap
 
 abbrev pub frame_of : List ℕ → ℕ → List ℕ → ℕ → ℕ → Body → Option Frame
 frame_of from inc to to_inc number body =
-    if is_number number body then Some (record { from = from; inc = inc; to = to; to_inc = to_inc; number = number; body = body }) else None
+    if is_number number body
+    then Some (record {
+      from = from;
+      inc = inc;
+      to = to;
+      to_inc = to_inc;
+      number = number;
+      body = body;
+    })
+    else None

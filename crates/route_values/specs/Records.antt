@@ -20,4 +20,12 @@ is_serial serial = nat_le 1 serial && nat_le serial MAX_COUNTER
 
 abbrev pub connect_of : List ℕ → ℕ → List ℕ → ℕ → ℕ → Option Connect
 connect_of server_name inc to to_inc serial =
-    if is_serial serial then Some (record { server_name = server_name; inc = inc; to = to; to_inc = to_inc; serial = serial }) else None
+    if is_serial serial
+    then Some (record {
+      server_name = server_name;
+      inc = inc;
+      to = to;
+      to_inc = to_inc;
+      serial = serial;
+    })
+    else None

@@ -14,12 +14,14 @@ Weighted = Key × ℕ
 
 -- profile: a plain key weighs 1, and a key with a queue name as many as its members
 abbrev pub is_weight : Key → ℕ → Bool
-is_weight key weight = if is_none key.queue then nat_eq weight 1 else nat_le 1 weight && nat_le weight MAX_WEIGHT
+is_weight key weight =
+    if is_none key.queue then nat_eq weight 1 else nat_le 1 weight && nat_le weight MAX_WEIGHT
 
 abbrev pub weighted_key : Key → ℕ → Option Weighted
 weighted_key key weight = if is_weight key weight then Some (key, weight) else None
 
--- profile: a key is a line, its pattern, or its pattern, its queue name and its weight with one space between them, ended by CR LF
+-- profile: a key is a line, its pattern, or its pattern, its queue name and its weight with one
+-- space between them, ended by CR LF
 abbrev pub queue_fields : Option (List ℕ) → ℕ → List ℕ
 queue_fields None weight = []
 queue_fields (Some queue) weight = codes " " ++ (queue ++ (codes " " ++ decimal weight))
@@ -52,7 +54,8 @@ snapshot_of keys = if are_snapshot_keys keys then Some keys else None
 abbrev pub total_cost : List Weighted → ℕ
 total_cost keys = sum_by (λ entry. cost_of entry.0) keys
 
--- profile: keys such as a server may have interest in: in strictly rising order, and within the limits of keys and bytes
+-- profile: keys such as a server may have interest in: in strictly rising order, and within the
+-- limits of keys and bytes
 pub record IsKept (keys : List Weighted) : Type 0 where
   pub rising : IsStrictlySortedBy key_cmp (keys_of keys)
   pub few : length keys ≤ MAX_KEYS

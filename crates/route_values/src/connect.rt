@@ -24,11 +24,23 @@ impl Model for RouteConnect {
 
     ghost Value = { Connect };
 
-    ghost view = { λ connect. record { server_name = connect.server_name; inc = connect.inc; to = connect.to; to_inc = connect.to_inc; serial = connect.serial } };
+    ghost view = { λ connect. record {
+      server_name = connect.server_name;
+      inc = connect.inc;
+      to = connect.to;
+      to_inc = connect.to_inc;
+      serial = connect.serial;
+    } };
 
     ghost invariant = { λ connect. is_serial connect.serial ≡ true };
 
-    ghost inverse = { λ value. record { server_name = value.server_name; inc = value.inc; to = value.to; to_inc = value.to_inc; serial = value.serial } };
+    ghost inverse = { λ value. record {
+      server_name = value.server_name;
+      inc = value.inc;
+      to = value.to;
+      to_inc = value.to_inc;
+      serial = value.serial;
+    } };
 }
 
 impl RouteConnect {

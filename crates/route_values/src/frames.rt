@@ -37,7 +37,14 @@ impl Model for Numbered {
 
     ghost Value = { Frame };
 
-    ghost view = { λ frame. record { from = frame.from; inc = frame.inc; to = frame.to; to_inc = frame.to_inc; number = frame.number; body = frame.body } };
+    ghost view = { λ frame. record {
+      from = frame.from;
+      inc = frame.inc;
+      to = frame.to;
+      to_inc = frame.to_inc;
+      number = frame.number;
+      body = frame.body;
+    } };
 
     ghost invariant = { λ frame. is_number frame.number frame.body ≡ true };
 }

@@ -278,10 +278,14 @@ impl SnapshotKeys {
     /// Appends the text of the keys. After want of memory the bytes are as they were, and where there
     /// is room for [`SnapshotKeys::text_len`] bytes none is wanted.
     pub fn append_text(&self, out: &mut Vec<u8>) -> Result<(), AllocError>
-        ensures items { out.new.items ≡ (if is_ok result then out.old.items ++ snapshot_text self.now else out.old.items) }
-        ensures len { vec_len out.new ≡ (if is_ok result then vec_len out.old + length (snapshot_text self.now) else vec_len out.old) }
+        ensures items { out.new.items
+            ≡ (if is_ok result then out.old.items ++ snapshot_text self.now else out.old.items) }
+        ensures len { vec_len out.new
+            ≡ (if is_ok result then vec_len out.old + length (snapshot_text self.now)
+            else vec_len out.old) }
         ensures capacity { vec_capacity out.old ≤ vec_capacity out.new }
-        ensures succeeds { vec_len out.old + length (snapshot_text self.now) ≤ vec_capacity out.old → IsOk result }
+        ensures succeeds { vec_len out.old + length (snapshot_text self.now) ≤ vec_capacity out.old
+            → IsOk result }
     {
         out.reserve(self.text_len())?;
         put_lines(out, self.as_slice());

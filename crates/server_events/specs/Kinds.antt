@@ -25,7 +25,8 @@ kind_of (event.Failed cause) = kind.Failed
 kind_of (event.PeerUnresolved peer) = kind.PeerUnresolved
 kind_of (event.PeerResolved peer address failures) = kind.PeerResolved
 
--- what ends a server is an error, what costs a client or a peer a warning; clients that come and go are for those who look for them
+-- what ends a server is an error, what costs a client or a peer a warning; clients that come and go
+-- are for those who look for them
 abbrev pub level_of : EventKind → Level
 level_of kind.Listening = level.Info
 level_of kind.PeerUp = level.Info

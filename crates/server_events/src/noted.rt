@@ -43,7 +43,8 @@ impl Events {
 
     /// Keeps an event, where there is a place and memory for it.
     fn keep(&mut self, event: Event) -> bool
-        ensures events { self.new.noted.items ≡ (if result then self.old.noted.items ++ event ∷ [] else self.old.noted.items) }
+        ensures events { self.new.noted.items
+            ≡ (if result then self.old.noted.items ++ event ∷ [] else self.old.noted.items) }
         ensures missed { self.new.missed ≡ self.old.missed }
         ensures filter { self.new.filter ≡ self.old.filter }
     {
@@ -52,8 +53,10 @@ impl Events {
 
     /// Notes an event that has happened, where the filter lets its level through; else nothing changes.
     pub fn note(&mut self, event: Event)
-        ensures noted { allows self.old.filter (level_of (kind_of event)) ≡ true → IsNoted self.old event self.new }
-        ensures quiet { allows self.old.filter (level_of (kind_of event)) ≡ false → self.new ≡ self.old }
+        ensures noted { allows self.old.filter (level_of (kind_of event)) ≡ true
+            → IsNoted self.old event self.new }
+        ensures quiet { allows self.old.filter (level_of (kind_of event)) ≡ false
+            → self.new ≡ self.old }
     {
         if !self.filter.allows(event.kind().level()) {
             return;

@@ -4,7 +4,8 @@ use Rattle.claim_cells.specs.Rule.{newcomer, fresh_hub}
 use Rattle.claim_cells.specs.Seats.{RaceId, HubShown, ShardShown}
 use Rattle.job_lane.specs.Ends.{Writer, Reader}
 
-pub record IsAlone (race : RaceId) (hub : HubShown) (seat : ShardShown) (near : Writer) (far : Reader) : Type 0 where
+pub record IsAlone (race : RaceId) (hub : HubShown) (seat : ShardShown) (near : Writer)
+    (far : Reader) : Type 0 where
   pub shards : race.shards ≡ 1
   pub hubs : hub.race ≡ race
   pub first : hub.part ≡ fresh_hub

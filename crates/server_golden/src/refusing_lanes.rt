@@ -37,7 +37,8 @@ impl<C: ServerCalls> LanedNode<C> {
 }
 
 impl<'n, H: HubCalls> HubCalls for LanedHub<'n, H> {
-    ghost published = { λ before conn publication word came after. H.published before.hub conn publication word came after.hub };
+    ghost published = { λ before conn publication word came after.
+        H.published before.hub conn publication word came after.hub };
 
     // Now and then none are.
     ghost pushed = { λ _ _. ⊤ };

@@ -37,11 +37,16 @@ use Rattle.settled_order.specs.Counted.{placed_by_answer, placed_by}
 -- ---- what a shard puts
 
 module _ (server : ServerIdentity) (now : ℕ) where
-  behind : (xs ys : List Placed) → placements_put server now (xs ++ ys) ≡ placements_put server now xs ++ placements_put server now ys
+  behind : (xs ys : List Placed)
+      → placements_put server now (xs ++ ys) ≡ placements_put server now xs ++ placements_put server now ys
   behind [] ys = refl
-  behind (x ∷ xs) ys = ap (λ l. placement_of server now x.conn x.headers x.entry.bytes x.entry.tag ++ l) (behind xs ys) ∙ sym (append_assoc (placement_of server now x.conn x.headers x.entry.bytes x.entry.tag) (placements_put server now xs) (placements_put server now ys))
+  behind (x ∷ xs) ys =
+      ap (λ l. placement_of server now x.conn x.headers x.entry.bytes x.entry.tag ++ l) (behind xs ys)
+      ∙ sym (append_assoc (placement_of server now x.conn x.headers x.entry.bytes x.entry.tag)
+      (placements_put server now xs) (placements_put server now ys))
 
-  messages : (of_shard : ℕ) (clients : List Client) (job : Job) (queue : Option (List ℕ)) (subs : List Subscription) → length (placements_put server now (map (owed_placed of_shard clients job queue) subs)) ≡ length subs
+  messages : (of_shard : ℕ) (clients : List Client) (job : Job) (queue : Option (List ℕ)) (subs : List Subscription)
+      → length (placements_put server now (map (owed_placed of_shard clients job queue) subs)) ≡ length subs
   messages of_shard clients job queue [] = refl
   messages of_shard clients job queue (sub ∷ subs) = ap suc (messages of_shard clients job queue subs)
 
@@ -49,7 +54,9 @@ module _ (server : ServerIdentity) (now : ℕ) where
   lines line [] = refl
   lines line (conn ∷ conns) = lines line conns
 
-  claimed : (s : State) (hand : Option Job) (sub : Option Subscription) (won : Bool) → length (placements_put server now (put_by_claim s hand sub won)) ≡ placed_by_answer (told_of_shard (claim_answer s hand sub won))
+  claimed : (s : State) (hand : Option Job) (sub : Option Subscription) (won : Bool)
+      → length (placements_put server now (put_by_claim s hand sub won))
+      ≡ placed_by_answer (told_of_shard (claim_answer s hand sub won))
   claimed s None sub won = refl
   claimed s (Some job) None won = refl
   claimed s (Some job) (Some sub) true = refl
@@ -59,18 +66,27 @@ module _ (server : ServerIdentity) (now : ℕ) where
   subscribed s None = refl
   subscribed s (Some sub) = refl
 
-  replied : (s : State) (conn : ℕ) (frame : ReplyFrame) (fits : Bool) → length (placements_put server now (cond fits (put_line (reply_line frame) conn ∷ []) (put_line slow_consumer conn ∷ []))) ≡ 0
+  replied : (s : State) (conn : ℕ) (frame : ReplyFrame) (fits : Bool)
+      → length
+      (placements_put server now (cond fits (put_line (reply_line frame) conn ∷ []) (put_line slow_consumer conn ∷ [])))
+      ≡ 0
   replied s conn frame true = refl
   replied s conn frame false = refl
 
-  began : (s : State) (job : Job) → length (placements_put server now (put_by s (part.Begin job))) ≡ length (map (owed_placed s.shard s.clients job None) (whole_walk s job).given)
+  began : (s : State) (job : Job)
+      → length (placements_put server now (put_by s (part.Begin job)))
+      ≡ length (map (owed_placed s.shard s.clients job None) (whole_walk s job).given)
   began s job =
       let w = whole_walk s job in
-      ap length (behind (map (owed_placed s.shard s.clients job None) w.given) (map (put_line slow_consumer) w.shut) ∙ ap (λ l. placements_put server now (map (owed_placed s.shard s.clients job None) w.given) ++ l) (lines slow_consumer w.shut))
+      ap length (behind (map (owed_placed s.shard s.clients job None) w.given) (map (put_line slow_consumer) w.shut)
+      ∙ ap (λ l. placements_put server now (map (owed_placed s.shard s.clients job None) w.given) ++ l)
+      (lines slow_consumer w.shut))
       ∙ ap length (append_nil (placements_put server now (map (owed_placed s.shard s.clients job None) w.given)))
-      ∙ messages s.shard s.clients job None w.given ∙ sym (map_length (owed_placed s.shard s.clients job None) w.given)
+      ∙ messages s.shard s.clients job None w.given
+      ∙ sym (map_length (owed_placed s.shard s.clients job None) w.given)
 
-  by_shard : (s : State) (event : part.Event) → length (placements_put server now (put_by s event)) ≡ placed_by_answer (told_of_shard (shard_answer s event))
+  by_shard : (s : State) (event : part.Event)
+      → length (placements_put server now (put_by s event)) ≡ placed_by_answer (told_of_shard (shard_answer s event))
   by_shard s part.Attach = refl
   by_shard s (part.Subscribe conn key sid) = subscribed s (sub_called conn sid s.subs)
   by_shard s (part.Unsubscribe conn sid max) = refl
@@ -86,24 +102,29 @@ module _ (server : ServerIdentity) (now : ℕ) where
   by_shard s part.Drain = refl
   by_shard s part.Collect = refl
 
-  by_line : (line : ShardWithJobs) (event : Option part.Event) → length (placements_put server now (put_if line event)) ≡ placed_by_answer (told_of_line line event)
+  by_line : (line : ShardWithJobs) (event : Option part.Event)
+      → length (placements_put server now (put_if line event)) ≡ placed_by_answer (told_of_line line event)
   by_line line None = refl
   by_line line (Some event) = by_shard line.shard event
 
-  by_part : (o : Option ShardWithJobs) (event : ShardWithJobs → Option part.Event) → length (placements_put server now (put_at o event)) ≡ placed_by_answer (told_at o event)
+  by_part : (o : Option ShardWithJobs) (event : ShardWithJobs → Option part.Event)
+      → length (placements_put server now (put_at o event)) ≡ placed_by_answer (told_at o event)
   by_part None event = refl
   by_part (Some line) event = by_line line (event line)
 
 -- ---- a server: its hub and its sessions put none
 
-received : (a : Node) (frame : Frame) (body : Body) → 0 ≡ placed_by_answer (told_of_hub (received_answer a.hub frame body))
+received : (a : Node) (frame : Frame) (body : Body)
+    → 0 ≡ placed_by_answer (told_of_hub (received_answer a.hub frame body))
 received a frame (Plus weighted) = refl
 received a frame (Minus key) = refl
 received a frame (Snapshot keys) = refl
 received a frame (Msg content queues) = refl
 
-by_node : (server : ServerIdentity) (now : ℕ) (a : Node) (e : NodeEvent) (won : Bool) → length (placements_put server now (puts server a e won)) ≡ placed_by_answer (node_answer server a e won)
-by_node server now a (Own (OfConn conn event)) won = by_part server now (conn_line server a conn) (λ line. Some (conn_event conn event))
+by_node : (server : ServerIdentity) (now : ℕ) (a : Node) (e : NodeEvent) (won : Bool)
+    → length (placements_put server now (puts server a e won)) ≡ placed_by_answer (node_answer server a e won)
+by_node server now a (Own (OfConn conn event)) won =
+    by_part server now (conn_line server a conn) (λ line. Some (conn_event conn event))
 by_node server now a (Own (AtShard shard work)) won = by_part server now (shard_line a shard) (work_event work won)
 by_node server now a (Own (Publish p)) won = refl
 by_node server now a (Own (Collect shard)) won = refl
@@ -118,18 +139,27 @@ by_node server now a (OnConnect session connect) won = refl
 
 -- ---- a cluster
 
-module _ (put : PutsArePlaced) (one : PlacementsAreOne) (c : Cluster) (w w' : World) (sound : EachUp (λ n a. SoundNode (server_at c n a.inc) a.node) w) (outcome : Outcome) where
-  none_more : w'.placements ≡ w.placements → placed_by outcome ≡ 0 → length w'.placements ≡ length w.placements + placed_by outcome
+module _ (put : PutsArePlaced) (one : PlacementsAreOne) (c : Cluster) (w w' : World)
+    (sound : EachUp (λ n a. SoundNode (server_at c n a.inc) a.node) w) (outcome : Outcome) where
+  none_more : w'.placements ≡ w.placements
+      → placed_by outcome ≡ 0
+      → length w'.placements ≡ length w.placements + placed_by outcome
   none_more same none = ap length same ∙ (let e = none in omega arith)
 
-  acted : (n : ℕ) (event : Option NodeEvent) → Acts c w n event outcome w' → length w'.placements ≡ length w.placements + placed_by outcome
+  acted : (n : ℕ) (event : Option NodeEvent)
+      → Acts c w n event outcome w'
+      → length w'.placements ≡ length w.placements + placed_by outcome
   acted n event acts =
       let server = server_at c n acts.a.inc in
       let now = suc w.step in
       let placed = placements_put server now (puts server acts.a.node acts.e acts.won) in
-      let same : acts.gained ≡ placed = one server now acts.a.node acts.b.lines acts.gained placed (sound n acts.a acts.a_is) acts.are_gained (put server now acts.a.node acts.e acts.won acts.race acts.b acts.steps) in
-      ap (λ (v : World). length v.placements) acts.after ∙ length-append w.placements acts.gained
-      ∙ ap (λ k. length w.placements + k) (ap length same ∙ by_node server now acts.a.node acts.e acts.won ∙ ap placed_by (sym acts.told))
+      let same : acts.gained ≡ placed = one server now acts.a.node acts.b.lines acts.gained placed
+      (sound n acts.a acts.a_is) acts.are_gained
+      (put server now acts.a.node acts.e acts.won acts.race acts.b acts.steps) in
+      ap (λ (v : World). length v.placements) acts.after
+      ∙ length-append w.placements acts.gained
+      ∙ ap (λ k. length w.placements + k)
+      (ap length same ∙ by_node server now acts.a.node acts.e acts.won ∙ ap placed_by (sym acts.told))
 
   happened : (e : Event) → Happens c w e outcome w' → length w'.placements ≡ length w.placements + placed_by outcome
   happened (Start n inc) h = none_more (ap (λ (v : World). v.placements) h.after) (ap placed_by h.told)
@@ -139,9 +169,13 @@ module _ (put : PutsArePlaced) (one : PlacementsAreOne) (c : Cluster) (w w' : Wo
   happened (of_world.OnConnect n session k) h = acted n _ h
   happened (At n event) h = acted n _ h
 
-  decided : (e : Event) (cause : Option WorldFault) → Decided c w e cause outcome w' → length w'.placements ≡ length w.placements + placed_by outcome
+  decided : (e : Event) (cause : Option WorldFault)
+      → Decided c w e cause outcome w'
+      → length w'.placements ≡ length w.placements + placed_by outcome
   decided e None h = happened e h
   decided e (Some why) h = none_more (ap (λ (v : World). v.placements) h.1) (ap placed_by h.0)
 
-  pub step_counts : (e : Event) → WorldStep c w e outcome w' → length w'.placements ≡ length w.placements + placed_by outcome
+  pub step_counts : (e : Event)
+      → WorldStep c w e outcome w'
+      → length w'.placements ≡ length w.placements + placed_by outcome
   step_counts e h = decided e (world_refusal c w e) h

@@ -20,5 +20,10 @@ placed_by (Done answer) = placed_by_answer answer
 -- just so many placements are added, by each step of every run
 abbrev pub PlacementsAreTold : Type 0
 PlacementsAreTold =
-    (c : Cluster) → IsCluster c → (events : List Event) (w : World) → Run c (new_world c) events w
-    → (e : Event) (outcome : Outcome) (w' : World) → WorldStep c w e outcome w' → length w'.placements ≡ length w.placements + placed_by outcome
+    (c : Cluster)
+    → IsCluster c
+    → (events : List Event) (w : World)
+    → Run c (new_world c) events w
+    → (e : Event) (outcome : Outcome) (w' : World)
+    → WorldStep c w e outcome w'
+    → length w'.placements ≡ length w.placements + placed_by outcome

@@ -1,4 +1,5 @@
--- The work that is owed of a publication, in an order of its own: server by server, and shard by shard.
+-- The work that is owed of a publication, in an order of its own: server by server, and shard by
+-- shard.
 use Rattle.std.specs.Prelude.{◌≡◌, ℕ, zero, suc, ◌<◌, Bool, true, ◌&&◌, nat_eq, List, [], ◌++◌, length, map, Option, Some, None, slice_get, if◌then◌else◌}
 use Rattle.std.specs.declared.vec.Vec.{Vec}
 use Rattle.hub_core.specs.Chosen.{IsPlanOf}
@@ -19,20 +20,26 @@ use Rattle.cluster_world.specs.InCode.{event_of}
 abbrev pub events_in : {A : Type 0} → Vec code.Event A → List Event
 events_in events = map event_of events.items
 
--- ---- by so many queue names of the publication's own server, and by these frames, the first of which has this number
+-- ---- by so many queue names of the publication's own server, and by these frames, the first of
+-- which has this number
 
 abbrev pub planned_node : List (List ℕ) → ℕ → ℕ → ℕ → ℕ → List Frame → ℕ → List Event
-planned_node names shards n own first frames m = if nat_eq m n then works_from m 0 shards own else frames_order names m shards first frames
+planned_node names shards n own first frames m =
+    if nat_eq m n then works_from m 0 shards own else frames_order names m shards first frames
 
 -- of so many servers, from the one at place m on
 abbrev pub planned_order : List (List ℕ) → ℕ → ℕ → ℕ → ℕ → List Frame → ℕ → ℕ → List Event
 planned_order names shards n own first frames m zero = []
-planned_order names shards n own first frames m (suc count) = planned_node names shards n own first frames m ++ planned_order names shards n own first frames (suc m) count
+planned_order names shards n own first frames m (suc count) =
+    planned_node names shards n own first frames m
+    ++ planned_order names shards n own first frames (suc m) count
 
 -- ---- that is what is owed
 
--- these are the cluster, the number of the next frame that is sent, and the plan of this publication at this server
-pub record IsPlannedIn (c : Cluster) (w : World) (n : ℕ) (a : Running) (p : Publication) (names : List (List ℕ)) (shards first : ℕ) (plan : PublishPlan) : Type 0 where
+-- these are the cluster, the number of the next frame that is sent, and the plan of this
+-- publication at this server
+pub record IsPlannedIn (c : Cluster) (w : World) (n : ℕ) (a : Running) (p : Publication)
+    (names : List (List ℕ)) (shards first : ℕ) (plan : PublishPlan) : Type 0 where
   pub names_are : names ≡ c.names
   pub shards_are : shards ≡ c.shards
   pub some : 0 < c.shards
@@ -40,13 +47,17 @@ pub record IsPlannedIn (c : Cluster) (w : World) (n : ℕ) (a : Running) (p : Pu
   pub plan_is : IsPlanOf (server_at c n a.inc) a.node.hub p plan.job plan.frames.items
 
 -- the events are the whole order of the publication, which is an order of work
-pub record IsWholeOrder (c : Cluster) (w : World) (n : ℕ) (a : Running) (p : Publication) (order : List Event) : Type 0 where
+pub record IsWholeOrder (c : Cluster) (w : World) (n : ℕ) (a : Running) (p : Publication)
+    (order : List Event) : Type 0 where
   pub same : order ≡ whole_order c w n a p
   pub right : IsOrder c w n a p order
 
 -- whichever cluster, world and publication it is the plan of
 abbrev pub OrdersAll : ℕ → List (List ℕ) → ℕ → ℕ → PublishPlan → List Event → Type 0
-OrdersAll n names shards first plan order = (c : Cluster) (w : World) (a : Running) (p : Publication) → IsPlannedIn c w n a p names shards first plan → IsWholeOrder c w n a p order
+OrdersAll n names shards first plan order =
+    (c : Cluster) (w : World) (a : Running) (p : Publication)
+    → IsPlannedIn c w n a p names shards first plan
+    → IsWholeOrder c w n a p order
 
 -- ---- of a cluster
 
@@ -62,7 +73,8 @@ work_unless None events = events
 work_unless (Some why) events = []
 
 abbrev pub work_owed : Cluster → World → ℕ → Publication → List Event
-work_owed c w n p = work_unless (world_refusal c w (At n (Publish p))) (work_at c w n p (slice_get w.nodes n))
+work_owed c w n p =
+    work_unless (world_refusal c w (At n (Publish p))) (work_at c w n p (slice_get w.nodes n))
 
 -- the cluster is settled for a publication of this message, and has room for it
 abbrev pub is_ready : Cluster → World → Content → Bool
@@ -74,4 +86,8 @@ delivery c w n p = if is_ready c w p.publication.message then work_owed c w n p 
 
 -- of a server that is up, where the cluster is ready, it is an order of work
 abbrev pub IsOwedOrder : Cluster → World → ℕ → Publication → List Event → Type 0
-IsOwedOrder c w n p order = (a : Running) → slice_get w.nodes n ≡ Some (Some a) → is_ready c w p.publication.message ≡ true → IsOrder c w n a p order
+IsOwedOrder c w n p order =
+    (a : Running)
+    → slice_get w.nodes n ≡ Some (Some a)
+    → is_ready c w p.publication.message ≡ true
+    → IsOrder c w n a p order

@@ -21,7 +21,10 @@ fn work_of<T: SubTable, R: Race>(
     publication: &Pub,
     word: u64,
 ) -> Result<Vec<Event>, AllocError>
-    ensures { IfOk result (λ order. events_in order ≡ work_owed world.now.cluster world.now.world node (publication_by conn publication.now word)) }
+    ensures { IfOk result (λ order.
+        events_in order
+        ≡ work_owed world.now.cluster world.now.world node
+        (publication_by conn publication.now word)) }
 {
     let first = world.next_frame()?;
     let origin = Origin {
@@ -53,7 +56,10 @@ fn ready_work<T: SubTable, R: Race>(
     publication: &Pub,
     word: u64,
 ) -> Result<Vec<Event>, AllocError>
-    ensures { IfOk result (λ order. events_in order ≡ delivered world.now.cluster world.now.world node (publication_by conn publication.now word)) }
+    ensures { IfOk result (λ order.
+        events_in order
+        ≡ delivered world.now.cluster world.now.world node
+        (publication_by conn publication.now word)) }
 {
     if !is_ready(world, publication) {
         return Ok(Vec::new(alloc));
@@ -74,8 +80,13 @@ pub fn delivery<T: SubTable, R: Race>(
     publication: &Pub,
     word: u64,
 ) -> Result<Vec<Event>, AllocError>
-    ensures same { IfOk result (λ order. events_in order ≡ delivered world.now.cluster world.now.world node (publication_by conn publication.now word)) }
-    ensures right { IfOk result (λ order. IsOwedOrder world.now.cluster world.now.world node (publication_by conn publication.now word) (events_in order)) }
+    ensures same { IfOk result (λ order.
+        events_in order
+        ≡ delivered world.now.cluster world.now.world node
+        (publication_by conn publication.now word)) }
+    ensures right { IfOk result (λ order.
+        IsOwedOrder world.now.cluster world.now.world node
+        (publication_by conn publication.now word) (events_in order)) }
 {
     some_order_is_right();
     world.takes_where_settled();

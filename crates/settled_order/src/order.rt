@@ -46,7 +46,8 @@ fn put_at(
     shard: u64,
     work: ShardWork,
 ) -> Result<(), AllocError>
-    ensures { OnOk result (events_in events.new ≡ events_in events.old ++ At node (AtShard shard work) ∷ []) }
+    ensures { OnOk result
+        (events_in events.new ≡ events_in events.old ++ At node (AtShard shard work) ∷ []) }
 {
     let event = OwnEvent::AtShard { shard, work };
     put(events, Event::At { node, event })
@@ -54,7 +55,8 @@ fn put_at(
 
 /// Puts the work of a shard on a job of so many queue names: it begins the job, claims each name, and ends the job.
 fn put_work(events: &mut Vec<Event>, node: usize, shard: u64, names: u64) -> Result<(), AllocError>
-    ensures { OnOk result (events_in events.new ≡ events_in events.old ++ work_events node shard names) }
+    ensures { OnOk result
+        (events_in events.new ≡ events_in events.old ++ work_events node shard names) }
 {
     put_at(events, node, shard, ShardWork::Begin)?;
     for index in 0..names {
@@ -70,7 +72,8 @@ fn put_works(
     shards: u64,
     names: u64,
 ) -> Result<(), AllocError>
-    ensures { OnOk result (events_in events.new ≡ events_in events.old ++ works_from node 0 shards names) }
+    ensures { OnOk result
+        (events_in events.new ≡ events_in events.old ++ works_from node 0 shards names) }
 {
     for place in 0..shards {
         put_work(events, node, place + 1, names)?;
@@ -96,7 +99,9 @@ fn put_frame(
     number: usize,
     frame: &Numbered,
 ) -> Result<(), AllocError>
-    ensures { OnOk result (events_in events.new ≡ events_in events.old ++ (Receive node number ∷ works_from node 0 shards (names_in_body frame.now.body))) }
+    ensures { OnOk result (events_in events.new
+        ≡ events_in events.old
+        ++ (Receive node number ∷ works_from node 0 shards (names_in_body frame.now.body))) }
 {
     put(
         events,
@@ -125,7 +130,9 @@ fn put_frames(
     frames: &[Numbered],
 ) -> Result<(), AllocError>
     requires { node < length origin.now.names.now }
-    ensures { OnOk result (events_in events.new ≡ events_in events.old ++ frames_order origin.now.names.now node origin.now.shards origin.now.first frames.now) }
+    ensures { OnOk result (events_in events.new
+        ≡ events_in events.old
+        ++ frames_order origin.now.names.now node origin.now.shards origin.now.first frames.now) }
 {
     let mut number = origin.first;
     for frame in frames {
@@ -148,7 +155,10 @@ fn put_node(
     plan: &PublishPlan,
 ) -> Result<(), AllocError>
     requires { node < length origin.now.names.now }
-    ensures { OnOk result (events_in events.new ≡ events_in events.old ++ planned_node origin.now.names.now origin.now.shards origin.now.node (length plan.now.job.queues) origin.now.first plan.now.frames.items node) }
+    ensures { OnOk result (events_in events.new
+        ≡ events_in events.old
+        ++ planned_node origin.now.names.now origin.now.shards origin.now.node
+        (length plan.now.job.queues) origin.now.first plan.now.frames.items node) }
 {
     if node == origin.node {
         let names = plan.job.queues.as_slice().len() as u64;
@@ -159,7 +169,11 @@ fn put_node(
 
 /// The work of all servers, in order of their places.
 fn planned(alloc: Global, origin: &Origin<'_>, plan: &PublishPlan) -> Result<Vec<Event>, AllocError>
-    ensures { IfOk result (λ order. events_in order ≡ planned_order origin.now.names.now origin.now.shards origin.now.node (length plan.now.job.queues) origin.now.first plan.now.frames.items 0 (length origin.now.names.now)) }
+    ensures { IfOk result (λ order.
+        events_in order
+        ≡ planned_order origin.now.names.now origin.now.shards origin.now.node
+        (length plan.now.job.queues) origin.now.first plan.now.frames.items 0
+        (length origin.now.names.now)) }
 {
     let mut events = Vec::new(alloc);
     for node in 0..origin.names.len() {
@@ -179,7 +193,9 @@ pub fn order_of(
     origin: &Origin<'_>,
     plan: &PublishPlan,
 ) -> Result<Vec<Event>, AllocError>
-    ensures { IfOk result (λ order. OrdersAll origin.now.node origin.now.names.now origin.now.shards origin.now.first plan.now (events_in order)) }
+    ensures { IfOk result (λ order.
+        OrdersAll origin.now.node origin.now.names.now origin.now.shards origin.now.first plan.now
+        (events_in order)) }
 {
     some_order_is_right();
     planned(alloc, origin, plan)

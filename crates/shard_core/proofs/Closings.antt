@@ -6,3 +6,5 @@ pub mod Leaving
 pub mod Opened
 pub mod Serials
 pub mod Causes
+pub mod Reasons
+pub mod Whys

@@ -39,8 +39,10 @@ abbrev pub copies_of : Bool → List Placed → List Placed
 copies_of true placed = placed
 copies_of false placed = []
 
--- the bytes of the first entries that wait stand behind those that were there: a take without entries
-pub record TakesBytes (old : Held) (conn count taken : ℕ) (before bytes : List ℕ) (new : Held) : Type 0 where
+-- the bytes of the first entries that wait stand behind those that were there: a take without
+-- entries
+pub record TakesBytes (old : Held) (conn count taken : ℕ) (before bytes : List ℕ) (new : Held) :
+    Type 0 where
   pub told : taken ≡ length (take count (waits_for conn old.state.clients))
   pub bytes_are : bytes ≡ before ++ bytes_of_all (take count (waits_for conn old.state.clients))
   pub after : new ≡ held_at_rest (shard_after old.state (Take conn count))
@@ -53,7 +55,8 @@ pub record IsTold (copies : Bool) (s : State) (job : Job) (begun : Begun) : Type
   pub ended : begun.ended.items ≡ ended_ids s.shard (whole_walk s job).ended
 
 -- the step of a begin
-pub record HasBegun (copies : Bool) (old : Held) (job : Job) (begun : Begun) (new : Held) : Type 0 where
+pub record HasBegun (copies : Bool) (old : Held) (job : Job) (begun : Begun) (new : Held) :
+    Type 0 where
   pub answered : IsTold copies old.state job begun
   pub after : new ≡ held_at_rest (shard_after old.state (Begin job))
 
@@ -62,6 +65,7 @@ abbrev pub IsHandedBack : Option ShardFault → Job → Type 0 → Job → Failu
 IsHandedBack cause job same back (Refused why) = (cause ≡ Some why) × (back ≡ job) × same
 IsHandedBack cause job same back OutOfMemory = (cause ≡ None) × (back ≡ job) × same
 
-abbrev pub IsAnsweredOrBack : {T : Type 0} → Option ShardFault → Job → (T → Type 0) → Type 0 → Result T BeginFault → Type 0
+abbrev pub IsAnsweredOrBack : {T : Type 0} → Option ShardFault → Job → (T → Type 0) → Type 0
+    → Result T BeginFault → Type 0
 IsAnsweredOrBack cause job done same (Ok x) = (cause ≡ None) × done x
 IsAnsweredOrBack cause job done same (Err fault) = IsHandedBack cause job same fault.job fault.cause

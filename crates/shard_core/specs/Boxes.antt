@@ -1,13 +1,14 @@
--- Connections as a shard keeps them: what waits for each, and what will wait once all that was staged is shown.
+-- Connections as a shard keeps them: what waits for each, and what will wait once all that was
+-- staged is shown.
 use Rattle.std.specs.Prelude.{◌≡◌, ℕ, ◌-◌, ◌<◌, Bool, List, ◌∷◌, length, map, position, slice_index_or, nat_eq, false, slice_get, slice_set, Some, true}
 use Rattle.std.specs.List.{AllPairs, list_any}
 use Rattle.outbox.specs.Views.{Waiting, Backlog, size_of, has_room}
 use Rattle.sub_table.specs.declared.Room.{Room}
 use Rattle.shard_core.specs.declared.connections.Conn.{Conn}
-use Rattle.shard_core.specs.declared.connections.FormLengths.{FormLengths}
-use Rattle.shard_core.specs.declared.connections.Seat.{Seat}
-use Rattle.shard_core.specs.declared.connections.Standing.{Standing}
-use Rattle.shard_core.specs.declared.connections.Standing.TheVariants.{Shut, Full, Ready}
+use Rattle.shard_core.specs.declared.standings.FormLengths.{FormLengths}
+use Rattle.shard_core.specs.declared.standings.Seat.{Seat}
+use Rattle.shard_core.specs.declared.standings.Standing.{Standing}
+use Rattle.shard_core.specs.declared.standings.Standing.TheVariants.{Shut, Full, Ready}
 use Rattle.shard_core.specs.Shards.{Client, client_at, fits_len, has_number, is_open, takes_headers}
 
 pub record Clients : Type 0 where
@@ -27,7 +28,13 @@ IsSettled c = c.next ≡ c.shown
 
 -- one of the two backlogs of a connection
 abbrev pub client_in_view : (Waiting → Backlog) → Conn → Client
-client_in_view backlog conn = record { number = conn.number; outbox = backlog conn.outbox; max_entries = conn.outbox.max_entries; max_bytes = conn.outbox.max_bytes; headers = conn.headers }
+client_in_view backlog conn = record {
+  number = conn.number;
+  outbox = backlog conn.outbox;
+  max_entries = conn.outbox.max_entries;
+  max_bytes = conn.outbox.max_bytes;
+  headers = conn.headers;
+}
 
 abbrev pub shown_backlog : Waiting → Backlog
 shown_backlog box = box.shown
@@ -45,7 +52,11 @@ AreRising conns = AllPairs (λ (a b : ℕ). a < b) (map number_of conns)
 -- what waits and what will wait differ at these places alone
 abbrev pub IsStagedWithin : List ℕ → List Conn → Type 0
 IsStagedWithin places conns =
-    (i : ℕ) (d : Conn) → i < length conns → list_any (nat_eq i) places ≡ false → client_in_view next_backlog (slice_index_or conns i d) ≡ client_in_view shown_backlog (slice_index_or conns i d)
+    (i : ℕ) (d : Conn)
+    → i < length conns
+    → list_any (nat_eq i) places ≡ false
+    → client_in_view next_backlog (slice_index_or conns i d)
+    ≡ client_in_view shown_backlog (slice_index_or conns i d)
 
 -- the same places, in whatever order and how often
 abbrev pub AreAlike : List ℕ → List ℕ → Type 0
@@ -61,19 +72,34 @@ IsSettledAt place old new = (places : List ℕ) → AreConns (place ∷ places) 
 
 -- what may still be put for a connection
 abbrev pub room_left : Client → Room
-room_left client = record { entries = client.max_entries - length client.outbox.entries; bytes = client.max_bytes - size_of client.outbox.entries }
+room_left client = record {
+  entries = client.max_entries - length client.outbox.entries;
+  bytes = client.max_bytes - size_of client.outbox.entries;
+}
 
 -- the connection at this place is there, with room for an entry of so many bytes,
 abbrev pub HasRoomAt : ℕ → ℕ → List Conn → Type 0
-HasRoomAt place len conns = (conn : Conn) → slice_get conns place ≡ Some conn → has_room conn.outbox.max_entries conn.outbox.max_bytes len conn.outbox.next ≡ true
+HasRoomAt place len conns =
+    (conn : Conn)
+    → slice_get conns place ≡ Some conn
+    → has_room conn.outbox.max_entries conn.outbox.max_bytes len conn.outbox.next ≡ true
 
 -- or it is not shut,
 abbrev pub IsOpenAt : ℕ → List Conn → Type 0
-IsOpenAt place conns = (conn : Conn) → slice_get conns place ≡ Some conn → conn.outbox.next.shut ≡ false
+IsOpenAt place conns =
+    (conn : Conn) → slice_get conns place ≡ Some conn → conn.outbox.next.shut ≡ false
 
 -- or it has this change staged
 abbrev pub IsBoxStaged : ℕ → (Backlog → Backlog) → List Conn → List Conn → Type 0
-IsBoxStaged place change old new = (conn : Conn) → slice_get old place ≡ Some conn → new ≡ slice_set old place (record { number = conn.number; outbox = record conn.outbox { next = change conn.outbox.next }; headers = conn.headers })
+IsBoxStaged place change old new =
+    (conn : Conn)
+    → slice_get old place ≡ Some conn
+    → new
+    ≡ slice_set old place (record {
+      number = conn.number;
+      outbox = record conn.outbox { next = change conn.outbox.next };
+      headers = conn.headers;
+    })
 
 -- ---- where a connection stands
 
@@ -92,10 +118,12 @@ form_length lengths true = lengths.headed
 form_length lengths false = lengths.plain
 
 -- a connection that is open stands there, with room for the form that it is due or without
-pub record IsOpenSeat (seat : Seat) (conn : ℕ) (lengths : FormLengths) (room : Bool) (clients : List Client) : Type 0 where
+pub record IsOpenSeat (seat : Seat) (conn : ℕ) (lengths : FormLengths) (room : Bool)
+    (clients : List Client) : Type 0 where
   pub seat_is : IsSeatOf conn seat clients
   pub opened : is_open conn clients ≡ true
-  pub fits : fits_len (client_at conn clients) (form_length lengths (takes_headers conn clients)) ≡ room
+  pub fits :
+      fits_len (client_at conn clients) (form_length lengths (takes_headers conn clients)) ≡ room
 
 abbrev pub IsStanding : Standing → ℕ → FormLengths → List Client → Type 0
 IsStanding Shut conn lengths clients = is_open conn clients ≡ false

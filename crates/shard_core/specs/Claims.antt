@@ -8,4 +8,7 @@ use Rattle.shard_core.specs.Shards.{Client, client_at, fits}
 
 -- of those that match it is a candidate
 abbrev pub is_member : ℕ → List Client → Job → List ℕ → Subscription → Bool
-is_member shard clients job name sub = is_named name sub.key.queue && (is_permitted job sub && fits (client_at sub.conn clients) (owed_entry shard clients job sub.key.queue sub))
+is_member shard clients job name sub =
+    is_named name sub.key.queue
+    && (is_permitted job sub
+    && fits (client_at sub.conn clients) (owed_entry shard clients job sub.key.queue sub))

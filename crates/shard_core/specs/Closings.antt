@@ -30,7 +30,10 @@ closings_of ended subs = flat_map (λ serial. map closing (filter (has_serial se
 
 -- these close, in this order
 abbrev pub without_subs : List ℕ → State → State
-without_subs ended s = record s { subs = filter (is_left ended) s.subs; deltas = s.deltas ++ closings_of ended s.subs }
+without_subs ended s = record s {
+  subs = filter (is_left ended) s.subs;
+  deltas = s.deltas ++ closings_of ended s.subs;
+}
 
 abbrev pub ended_ids : ℕ → List ℕ → List SubId
 ended_ids shard ended = map (id_of shard) ended

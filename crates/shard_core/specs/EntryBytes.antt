@@ -10,4 +10,6 @@ use Rattle.subj.specs.declared.identities.SubId.{SubId}
 -- NATS documentation, "Client Protocol": `MSG` and `HMSG`
 abbrev pub EntriesAreMessages : Type 0
 EntriesAreMessages =
-    (id : PubId) (sub : SubId) (mode : Mode) (content : Content) (sid : List ℕ) (option : Bool) → (message_entry id sub mode (due_line content sid option) (due_body content option)).bytes ≡ due_bytes content sid option
+    (id : PubId) (sub : SubId) (mode : Mode) (content : Content) (sid : List ℕ) (option : Bool)
+    → (message_entry id sub mode (due_line content sid option) (due_body content option)).bytes
+    ≡ due_bytes content sid option

@@ -24,7 +24,8 @@ use Rattle.shard_core.specs.declared.faults.ShardFault.TheVariants.{NoConn}
 abbrev pub Gives : State → Event → Answer → Type 0
 Gives s event answer = (shard_refusal s event ≡ None) × (shard_answer s event ≡ answer)
 
--- ---- shard 1 of 1, with the connections 1, 2 and 3, each with room for so many entries; one waits for each
+-- ---- shard 1 of 1, with the connections 1, 2 and 3, each with room for so many entries; one waits
+-- for each
 
 abbrev pub foo : Option (List ℕ) → Key
 foo queue = record { pattern = codes "foo"; queue = queue }
@@ -42,10 +43,23 @@ abbrev pub pong : Written
 pong = reply_entry (codes "PONG\r\n")
 
 abbrev pub client : ℕ → ℕ → Client
-client number room = record { number = number; outbox = record { entries = pong ∷ []; shut = false }; max_entries = room; max_bytes = OUTBOX_BYTES; headers = false }
+client number room = record {
+  number = number;
+  outbox = record { entries = pong ∷ []; shut = false };
+  max_entries = room;
+  max_bytes = OUTBOX_BYTES;
+  headers = false;
+}
 
 abbrev pub sub : ℕ → ℕ → Option (List ℕ) → Subscription
-sub serial conn queue = record { serial = serial; conn = conn; key = foo queue; sid = codes "7"; delivered = 0; max = None }
+sub serial conn queue = record {
+  serial = serial;
+  conn = conn;
+  key = foo queue;
+  sid = codes "7";
+  delivered = 0;
+  max = None;
+}
 
 -- with room for so many entries at connection 1, 2 and 3
 abbrev pub shard : ℕ → ℕ → ℕ → List Subscription → State
@@ -65,7 +79,14 @@ shard first second third subs = record {
 
 -- `hi` under `foo` for the members of q, published by connection 1 unless that gets nothing back
 abbrev pub job_of : ℕ → Bool → Job
-job_of turn echo = record { turn = turn; id = record { origin = codes "n1"; inc = 1; number = turn }; message = record { subject = codes "foo"; reply = None; headers = None; payload = codes "hi" }; publisher = Some 1; echo = echo; queues = codes "q" ∷ [] }
+job_of turn echo = record {
+  turn = turn;
+  id = record { origin = codes "n1"; inc = 1; number = turn };
+  message = record { subject = codes "foo"; reply = None; headers = None; payload = codes "hi" };
+  publisher = Some 1;
+  echo = echo;
+  queues = codes "q" ∷ [];
+}
 
 abbrev pub job : ℕ → Job
 job turn = job_of turn true
@@ -80,31 +101,41 @@ closes queue = record { key = foo queue; up = false }
 abbrev pub ids : List ℕ → List SubId
 ids serials = map (id_of 1) serials
 
--- ---- a connection without room is shut, and all its subscriptions close, also those of queue groups and those behind
+-- ---- a connection without room is shut, and all its subscriptions close, also those of queue
+-- groups and those behind
 
 abbrev pub one_full : State
 one_full = shard 1 5 5 (sub 1 1 plain ∷ sub 2 1 member ∷ sub 3 2 plain ∷ sub 4 1 plain ∷ [])
 
 pub record ClosesTheSlow : Type 0 where
-  pub began : Gives one_full (Begin (job 1)) (Began (placed_for 1 false (job 1) None (sub 3 2 plain) ∷ []) (1 ∷ []) (ids (1 ∷ 2 ∷ 4 ∷ [])))
+  pub began : Gives one_full (Begin (job 1))
+      (Began (placed_for 1 false (job 1) None (sub 3 2 plain) ∷ []) (1 ∷ []) (ids (1 ∷ 2 ∷ 4 ∷ [])))
   pub left : map serial_of (shard_after one_full (Begin (job 1))).subs ≡ 3 ∷ []
-  pub told : (shard_after one_full (Begin (job 1))).deltas ≡ closes plain ∷ closes member ∷ closes plain ∷ []
+  pub told : (shard_after one_full (Begin (job 1))).deltas
+      ≡ closes plain ∷ closes member ∷ closes plain ∷ []
   -- one last line stands behind what waited, and nothing more is put
-  pub line : waits_for 1 (shard_after one_full (Begin (job 1))).clients ≡ pong ∷ reply_entry slow_consumer ∷ []
+  pub line : waits_for 1 (shard_after one_full (Begin (job 1))).clients
+      ≡ pong ∷ reply_entry slow_consumer ∷ []
   pub shut : is_open 1 (shard_after one_full (Begin (job 1))).clients ≡ false
-  pub other : waits_for 2 (shard_after one_full (Begin (job 1))).clients ≡ pong ∷ due_entry 1 false (job 1) None (sub 3 2 plain) ∷ []
-  -- an answer without room, a shut and a detach close them as well, and a detach leaves no connection
+  pub other : waits_for 2 (shard_after one_full (Begin (job 1))).clients
+      ≡ pong ∷ due_entry 1 false (job 1) None (sub 3 2 plain) ∷ []
+  -- an answer without room, a shut and a detach close them as well, and a detach leaves no
+  -- connection
   pub replied : Gives one_full (Reply 1 Pong) (Replied true (ids (1 ∷ 2 ∷ 4 ∷ [])))
   pub answered : Gives one_full (Reply 2 Pong) (Replied false [])
-  pub replied_line : waits_for 1 (shard_after one_full (Reply 1 Pong)).clients ≡ pong ∷ reply_entry slow_consumer ∷ []
+  pub replied_line : waits_for 1 (shard_after one_full (Reply 1 Pong)).clients
+      ≡ pong ∷ reply_entry slow_consumer ∷ []
   pub replied_left : map serial_of (shard_after one_full (Reply 1 Pong)).subs ≡ 3 ∷ []
-  pub replied_told : (shard_after one_full (Reply 1 Pong)).deltas ≡ closes plain ∷ closes member ∷ closes plain ∷ []
+  pub replied_told : (shard_after one_full (Reply 1 Pong)).deltas
+      ≡ closes plain ∷ closes member ∷ closes plain ∷ []
   pub was_shut : Gives one_full (Shut 1 ParserError) (WasShut (ids (1 ∷ 2 ∷ 4 ∷ [])))
   pub shut_left : map serial_of (shard_after one_full (Shut 1 ParserError)).subs ≡ 3 ∷ []
-  pub shut_told : (shard_after one_full (Shut 1 ParserError)).deltas ≡ closes plain ∷ closes member ∷ closes plain ∷ []
+  pub shut_told : (shard_after one_full (Shut 1 ParserError)).deltas
+      ≡ closes plain ∷ closes member ∷ closes plain ∷ []
   pub detached : Gives one_full (Detach 1) (Detached (ids (1 ∷ 2 ∷ 4 ∷ [])))
   pub detached_left : map serial_of (shard_after one_full (Detach 1)).subs ≡ 3 ∷ []
-  pub detached_told : (shard_after one_full (Detach 1)).deltas ≡ closes plain ∷ closes member ∷ closes plain ∷ []
+  pub detached_told :
+      (shard_after one_full (Detach 1)).deltas ≡ closes plain ∷ closes member ∷ closes plain ∷ []
 
 -- a connection with room for one of its two messages
 abbrev pub one_left : State
@@ -116,11 +147,14 @@ one_left_once = shard 2 5 5 (record (sub 1 1 plain) { max = Some 1 } ∷ sub 2 1
 
 -- the first message takes the room that the second one would need
 pub record FillsTheRoom : Type 0 where
-  pub began : Gives one_left (Begin (job 1)) (Began (placed_for 1 false (job 1) None (sub 1 1 plain) ∷ []) (1 ∷ []) (ids (1 ∷ 2 ∷ [])))
-  pub line : waits_for 1 (shard_after one_left (Begin (job 1))).clients ≡ pong ∷ due_entry 1 false (job 1) None (sub 1 1 plain) ∷ reply_entry slow_consumer ∷ []
+  pub began : Gives one_left (Begin (job 1))
+      (Began (placed_for 1 false (job 1) None (sub 1 1 plain) ∷ []) (1 ∷ []) (ids (1 ∷ 2 ∷ [])))
+  pub line : waits_for 1 (shard_after one_left (Begin (job 1))).clients
+      ≡ pong ∷ due_entry 1 false (job 1) None (sub 1 1 plain) ∷ reply_entry slow_consumer ∷ []
   -- what reached its maximum does not close once more with its connection
   pub once : ended_of (shard_answer one_left_once (Begin (job 1))) ≡ ids (1 ∷ 2 ∷ [])
-  pub told_once : (shard_after one_left_once (Begin (job 1))).deltas ≡ closes plain ∷ closes plain ∷ []
+  pub told_once :
+      (shard_after one_left_once (Begin (job 1))).deltas ≡ closes plain ∷ closes plain ∷ []
 
 -- ---- what opens and closes is told, each once
 
@@ -141,7 +175,8 @@ pub record TellsOnce : Type 0 where
   pub again : Gives opened (Subscribe 2 (foo plain) (codes "7")) AlreadyOpen
   pub again_same : shard_after opened (Subscribe 2 (foo plain) (codes "7")) ≡ opened
   pub closed : Gives opened (Unsubscribe 2 (codes "7") None) (Unsubscribed (ids (10 ∷ [])))
-  pub closed_told : (shard_after opened (Unsubscribe 2 (codes "7") None)).deltas ≡ opens member ∷ closes member ∷ []
+  pub closed_told : (shard_after opened (Unsubscribe 2 (codes "7") None)).deltas
+      ≡ opens member ∷ closes member ∷ []
   -- a collect hands all of it over, and begins anew
   pub collected : Gives opened Collect (Collected (opens member ∷ []))
   pub emptied : (shard_after opened Collect).deltas ≡ []
@@ -150,7 +185,8 @@ pub record TellsOnce : Type 0 where
 
 -- what is chosen at the turns 3, 4, 5 and 6
 abbrev pub chosen_at : State → List (Option ℕ)
-chosen_at s = map (λ turn. option_map serial_of (candidate_of s (Some (job turn)) 0)) (3 ∷ 4 ∷ 5 ∷ 6 ∷ [])
+chosen_at s =
+    map (λ turn. option_map serial_of (candidate_of s (Some (job turn)) 0)) (3 ∷ 4 ∷ 5 ∷ 6 ∷ [])
 
 abbrev pub three_members : List Subscription
 three_members = sub 1 1 member ∷ sub 2 2 member ∷ sub 3 3 member ∷ []
@@ -161,9 +197,12 @@ pub record ChoosesByTurn : Type 0 where
   pub full : chosen_at (shard 5 1 5 three_members) ≡ Some 3 ∷ Some 1 ∷ Some 3 ∷ Some 1 ∷ []
   pub all_full : chosen_at (shard 1 1 1 three_members) ≡ None ∷ None ∷ None ∷ None ∷ []
   -- those of another queue name are no members, nor is a plain one
-  pub named : chosen_at (shard 5 5 5 (sub 1 1 member ∷ sub 2 2 other_member ∷ sub 3 3 plain ∷ sub 4 3 member ∷ [])) ≡ Some 4 ∷ Some 1 ∷ Some 4 ∷ Some 1 ∷ []
+  pub named : chosen_at
+      (shard 5 5 5 (sub 1 1 member ∷ sub 2 2 other_member ∷ sub 3 3 plain ∷ sub 4 3 member ∷ []))
+      ≡ Some 4 ∷ Some 1 ∷ Some 4 ∷ Some 1 ∷ []
   -- the publisher's own is none where that gets nothing back
-  pub echo : option_map serial_of (candidate_of (shard 5 5 5 three_members) (Some (job_of 3 false)) 0) ≡ Some 3
+  pub echo : option_map serial_of
+      (candidate_of (shard 5 5 5 three_members) (Some (job_of 3 false)) 0) ≡ Some 3
 
 -- ---- a claim
 
@@ -171,8 +210,10 @@ abbrev pub claiming : State
 claiming = at_turn 4 (shard 5 5 5 three_members)
 
 pub record ClaimsOnce : Type 0 where
-  pub won : Gives claiming (Claim 0 true) (Won (id_of 1 2) (placed_for 1 false (job 4) member (sub 2 2 member)) [])
-  pub placed : waits_for 2 (shard_after claiming (Claim 0 true)).clients ≡ pong ∷ due_entry 1 false (job 4) member (sub 2 2 member) ∷ []
+  pub won : Gives claiming (Claim 0 true)
+      (Won (id_of 1 2) (placed_for 1 false (job 4) member (sub 2 2 member)) [])
+  pub placed : waits_for 2 (shard_after claiming (Claim 0 true)).clients
+      ≡ pong ∷ due_entry 1 false (job 4) member (sub 2 2 member) ∷ []
   -- a lost one places nothing
   pub lost : Gives claiming (Claim 0 false) Lost
   pub not_placed : (shard_after claiming (Claim 0 false)).clients ≡ claiming.clients
@@ -186,14 +227,19 @@ counted max = shard 5 5 5 (record (sub 1 2 plain) { delivered = 1; max = max } �
 
 pub record KeepsTheMaximum : Type 0 where
   -- it closes with the message that reaches its maximum, and not before
-  pub last : Gives (counted (Some 2)) (Begin (job 1)) (Began (placed_for 1 false (job 1) None (sub 1 2 plain) ∷ []) [] (ids (1 ∷ [])))
-  pub one_more : Gives (counted (Some 3)) (Begin (job 1)) (Began (placed_for 1 false (job 1) None (sub 1 2 plain) ∷ []) [] [])
+  pub last : Gives (counted (Some 2)) (Begin (job 1))
+      (Began (placed_for 1 false (job 1) None (sub 1 2 plain) ∷ []) [] (ids (1 ∷ [])))
+  pub one_more : Gives (counted (Some 3)) (Begin (job 1))
+      (Began (placed_for 1 false (job 1) None (sub 1 2 plain) ∷ []) [] [])
   -- a maximum that was reached closes at once
-  pub reached : Gives (counted None) (Unsubscribe 2 (codes "7") (Some 1)) (Unsubscribed (ids (1 ∷ [])))
+  pub reached :
+      Gives (counted None) (Unsubscribe 2 (codes "7") (Some 1)) (Unsubscribed (ids (1 ∷ [])))
   pub not_reached : Gives (counted None) (Unsubscribe 2 (codes "7") (Some 2)) (Unsubscribed [])
   -- a later maximum replaces an earlier one, which may be greater or smaller
-  pub greater : (shard_after (counted (Some 2)) (Unsubscribe 2 (codes "7") (Some 3))).subs ≡ (counted (Some 3)).subs
-  pub smaller : (shard_after (counted (Some 3)) (Unsubscribe 2 (codes "7") (Some 2))).subs ≡ (counted (Some 2)).subs
+  pub greater : (shard_after (counted (Some 2)) (Unsubscribe 2 (codes "7") (Some 3))).subs
+      ≡ (counted (Some 3)).subs
+  pub smaller : (shard_after (counted (Some 3)) (Unsubscribe 2 (codes "7") (Some 2))).subs
+      ≡ (counted (Some 2)).subs
 
 -- ---- headers
 
@@ -201,7 +247,9 @@ abbrev pub block : List ℕ
 block = codes "NATS/1.0\r\n\r\n"
 
 abbrev pub headed_job : ℕ → Job
-headed_job turn = record (job turn) { message = record ((job turn).message) { headers = Some block } }
+headed_job turn = record (job turn) {
+  message = record ((job turn).message) { headers = Some block };
+}
 
 -- two connections with a plain subscription each, and one with a member of q
 abbrev pub listening : State
@@ -217,31 +265,45 @@ added_for conn s = bytes_of_all (drop 1 (waits_for conn s.clients))
 
 -- connection 2 takes headers, and has room for the message without its block alone
 abbrev pub tight : State
-tight = record choosing { clients = map (λ (c : Client). record c { max_bytes = 25 }) choosing.clients }
+tight = record choosing {
+  clients = map (λ (c : Client). record c { max_bytes = 25 }) choosing.clients;
+}
 
 pub record SendsHeaders : Type 0 where
   pub set : Gives listening (SetHeaders 2 true) HeadersSet
   -- the block goes to a connection that takes headers, and to no other
-  pub without : added_for 1 (shard_after choosing (Begin (headed_job 1))) ≡ codes "MSG foo 7 2\r\nhi\r\n"
-  pub with_block : added_for 2 (shard_after choosing (Begin (headed_job 1))) ≡ codes "HMSG foo 7 12 14\r\nNATS/1.0\r\n\r\nhi\r\n"
-  pub claimed : added_for 3 (shard_after (shard_after choosing (Begin (headed_job 1))) (Claim 0 true)) ≡ codes "HMSG foo 7 12 14\r\nNATS/1.0\r\n\r\nhi\r\n"
+  pub without :
+      added_for 1 (shard_after choosing (Begin (headed_job 1))) ≡ codes "MSG foo 7 2\r\nhi\r\n"
+  pub with_block : added_for 2 (shard_after choosing (Begin (headed_job 1)))
+      ≡ codes "HMSG foo 7 12 14\r\nNATS/1.0\r\n\r\nhi\r\n"
+  pub claimed : added_for 3
+      (shard_after (shard_after choosing (Begin (headed_job 1))) (Claim 0 true))
+      ≡ codes "HMSG foo 7 12 14\r\nNATS/1.0\r\n\r\nhi\r\n"
   -- a message without a block goes as it does to all others, and a later choice holds
   pub plain_one : added_for 2 (shard_after choosing (Begin (job 1))) ≡ codes "MSG foo 7 2\r\nhi\r\n"
-  pub chosen_again : added_for 2 (shard_after (shard_after choosing (SetHeaders 2 false)) (Begin (headed_job 1))) ≡ codes "MSG foo 7 2\r\nhi\r\n"
+  pub chosen_again : added_for 2
+      (shard_after (shard_after choosing (SetHeaders 2 false)) (Begin (headed_job 1)))
+      ≡ codes "MSG foo 7 2\r\nhi\r\n"
   -- room is reckoned with the block
   pub no_room : shut_by tight (Begin (headed_job 1)) ≡ 2 ∷ []
   pub not_there : shard_refusal listening (SetHeaders 4 true) ≡ Some NoConn
-  pub new_one : option_map (λ (c : Client). c.headers) (client_at 4 (shard_after listening Attach).clients) ≡ Some false
+  pub new_one : option_map (λ (c : Client). c.headers)
+      (client_at 4 (shard_after listening Attach).clients) ≡ Some false
 
 -- ---- an outbox as it comes with its connection: 1,024 entries, and a last line
 
--- so many messages wait for a connection that was attached to a shard without any, and has one plain subscription
+-- so many messages wait for a connection that was attached to a shard without any, and has one
+-- plain subscription
 abbrev pub waiting_entries : ℕ → List Written
 waiting_entries count = replicate count (due_entry 1 false (job 1) None (sub 1 1 plain))
 
 abbrev pub attached_with : ℕ → State
 attached_with count = record (shard_after (new_shard 1 1) Attach) {
-  clients = map (λ (c : Client). record c { outbox = record { entries = waiting_entries count; shut = false } }) (shard_after (new_shard 1 1) Attach).clients;
+  clients =
+      map (λ (c : Client). record c {
+        outbox = record { entries = waiting_entries count; shut = false };
+      })
+      (shard_after (new_shard 1 1) Attach).clients;
   subs = sub 1 1 plain ∷ [];
 }
 
@@ -252,8 +314,10 @@ taken_after s turn = waits_for 1 (shard_after s (Begin (job turn))).clients
 pub record FillsAnOutbox : Type 0 where
   pub attached : Gives (new_shard 1 1) Attach (Attached 1)
   -- the 1,024th has room
-  pub last : Gives (attached_with 1023) (Begin (job 1)) (Began (placed_for 1 false (job 1) None (sub 1 1 plain) ∷ []) [] [])
+  pub last : Gives (attached_with 1023) (Begin (job 1))
+      (Began (placed_for 1 false (job 1) None (sub 1 1 plain) ∷ []) [] [])
   pub many : taken_after (attached_with 1023) 1 ≡ waiting_entries 1024
   -- at the next one the connection is shut, and its client takes 1,025 entries
   pub full : Gives (attached_with 1024) (Begin (job 1)) (Began [] (1 ∷ []) (ids (1 ∷ [])))
-  pub taken : Gives (shard_after (attached_with 1024) (Begin (job 1))) (Take 1 2000) (Taken (waiting_entries 1024 ++ reply_entry slow_consumer ∷ []))
+  pub taken : Gives (shard_after (attached_with 1024) (Begin (job 1))) (Take 1 2000)
+      (Taken (waiting_entries 1024 ++ reply_entry slow_consumer ∷ []))

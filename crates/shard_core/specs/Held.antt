@@ -13,7 +13,8 @@ use Rattle.shard_core.specs.Owed.{owed_entry, owed_placed, after_put, candidate_
 use Rattle.shard_core.specs.ShardEvents.{Event, Answer, Claim}
 use Rattle.shard_core.specs.ShardSteps.{shard_refusal, shard_after, shard_answer}
 
--- its state, and the member of a queue group that the last call chose, whose entry is kept for it unseen
+-- its state, and the member of a queue group that the last call chose, whose entry is kept for it
+-- unseen
 pub record Held : Type 0 where
   pub state : State
   pub chosen : Option Subscription
@@ -46,16 +47,24 @@ copy_of false placed = None
 
 -- what is told of a candidate: its name, and a copy of the entry that it gets if the claim is won
 abbrev pub candidate_told : Bool → ℕ → List Client → Job → Subscription → Candidate
-candidate_told copies shard clients job sub = record { sub = id_of shard sub.serial; placed = copy_of copies (owed_placed shard clients job sub.key.queue sub) }
+candidate_told copies shard clients job sub = record {
+  sub = id_of shard sub.serial;
+  placed = copy_of copies (owed_placed shard clients job sub.key.queue sub);
+}
 
 abbrev pub told_of : Bool → ℕ → List Client → Option Job → Option Subscription → Option Candidate
 told_of copies shard clients None chosen = None
-told_of copies shard clients (Some job) chosen = option_map (candidate_told copies shard clients job) chosen
+told_of copies shard clients (Some job) chosen =
+    option_map (candidate_told copies shard clients job) chosen
 
 -- the index is tried, and the candidate stands
-pub record Chooses (copies : Bool) (old : Held) (index : ℕ) (candidate : Option Candidate) (new : Held) : Type 0 where
-  pub told : candidate ≡ told_of copies old.state.shard old.state.clients old.state.hand (candidate_of old.state old.state.hand index)
-  pub after : new ≡ record { state = after_try old.state; chosen = candidate_of old.state old.state.hand index }
+pub record Chooses (copies : Bool) (old : Held) (index : ℕ) (candidate : Option Candidate)
+    (new : Held) : Type 0 where
+  pub told : candidate
+      ≡ told_of copies old.state.shard old.state.clients old.state.hand
+      (candidate_of old.state old.state.hand index)
+  pub after : new
+      ≡ record { state = after_try old.state; chosen = candidate_of old.state old.state.hand index }
 
 -- the last call chose a candidate for this index
 pub record Stands (index : ℕ) (held : Held) : Type 0 where
@@ -86,15 +95,19 @@ serial_told candidate = option_map (λ (c : Candidate). c.sub.serial) candidate
 -- what waits once the candidate's entry is shown
 abbrev pub staged_in : Option Job → Subscription → ℕ → List Client → List Client
 staged_in None sub shard clients = clients
-staged_in (Some job) sub shard clients = clients_with_change (with_entry (owed_entry shard clients job sub.key.queue sub)) sub.conn clients
+staged_in (Some job) sub shard clients =
+    clients_with_change (with_entry (owed_entry shard clients job sub.key.queue sub)) sub.conn
+    clients
 
 abbrev pub staged_for : Option Subscription → Option Job → ℕ → List Client → List Client
 staged_for None hand shard clients = clients
 staged_for (Some sub) hand shard clients = staged_in hand sub shard clients
 
 -- the member that a claim chooses by this name, and what waits once its entry is shown
-pub record HasChosen (copies : Bool) (s : State) (job : Job) (name : List ℕ) (candidate : Option Candidate) (next : List Client) : Type 0 where
-  pub told : candidate ≡ option_map (candidate_told copies s.shard s.clients job) (candidate_named s job (Some name))
+pub record HasChosen (copies : Bool) (s : State) (job : Job) (name : List ℕ)
+    (candidate : Option Candidate) (next : List Client) : Type 0 where
+  pub told : candidate
+      ≡ option_map (candidate_told copies s.shard s.clients job) (candidate_named s job (Some name))
   pub chosen : with_serial (serial_told candidate) s.subs ≡ candidate_named s job (Some name)
   pub staged : next ≡ staged_for (candidate_named s job (Some name)) (Some job) s.shard s.clients
 
@@ -102,10 +115,15 @@ pub record HasChosen (copies : Bool) (s : State) (job : Job) (name : List ℕ) (
 pub record IsWhole (old : State) (index : ℕ) (mid : Held) : Type 0 where
   pub not_won : mid.state ≡ shard_after old (Claim index false)
   pub stands : is_some mid.chosen ≡ true → Stands index mid
-  pub won : is_some mid.chosen ≡ true → after_put_chosen mid.state mid.state.hand mid.chosen ≡ shard_after old (Claim index true)
+  pub won : is_some mid.chosen ≡ true
+      → after_put_chosen mid.state mid.state.hand mid.chosen ≡ shard_after old (Claim index true)
 
 abbrev pub ClaimsAreWhole : Type 0
-ClaimsAreWhole = (copies : Bool) (old mid : Held) (index : ℕ) (candidate : Option Candidate) → shard_refusal old.state (Claim index false) ≡ None → Chooses copies old index candidate mid → IsWhole old.state index mid
+ClaimsAreWhole =
+    (copies : Bool) (old mid : Held) (index : ℕ) (candidate : Option Candidate)
+    → shard_refusal old.state (Claim index false) ≡ None
+    → Chooses copies old index candidate mid
+    → IsWhole old.state index mid
 
 -- ---- what its fields keep
 
@@ -126,8 +144,8 @@ pub record HasTurns (finished next_index : ℕ) (hand : Option Job) : Type 0 whe
   pub tried : next_index ≤ MAX_QUEUE_NAMES
   pub turn : IsNextTurn finished hand
 
--- A subscription gets at most one message at each Begin and at each Claim: so many since the shard began. The message of a
--- candidate that stands is not among them.
+-- A subscription gets at most one message at each Begin and at each Claim: so many since the shard
+-- began. The message of a candidate that stands is not among them.
 abbrev pub each_turn : ℕ
 each_turn = MAX_QUEUE_NAMES + 1
 

@@ -4,7 +4,8 @@ pub mod Faults
 pub mod Shards
 -- subscriptions that close, and what each opening and closing leaves for the hub
 pub mod Closings
--- what a shard owes for a job: to plain subscriptions at Begin, and to one member of a queue group at a Claim
+-- what a shard owes for a job: to plain subscriptions at Begin, and to one member of a queue group
+-- at a Claim
 pub mod Owed
 -- what a shard is asked, and what it answers
 pub mod ShardEvents
@@ -22,15 +23,18 @@ pub mod Answers
 pub mod Puts
 -- a shard together with the jobs that wait for it: what every such line keeps
 pub mod Lines
--- a shard and its steps as the cluster law sees them: without outboxes, header options, deltas, limits, maxima and echo
+-- a shard and its steps as the cluster law sees them: without outboxes, header options, deltas,
+-- limits, maxima and echo
 pub mod AsLaw
--- connections as a shard keeps them: what waits for each, and what will wait once what was staged is shown
+-- connections as a shard keeps them: what waits for each, and what will wait once what was staged
+-- is shown
 pub mod Boxes
 -- an outbox's entries and the frames of a server agree
 pub mod EntryBytes
 -- the open subscriptions of a shard, and the openings and closings that its hub was not told of yet
 pub mod Opened
--- what is noted of the members of queue groups that match a subject, so that one look serves all queue names of a job
+-- what is noted of the members of queue groups that match a subject, so that one look serves all
+-- queue names of a job
 pub mod Members
 -- an open subscription that receives a subject, with what a delivery needs of it
 pub mod Received

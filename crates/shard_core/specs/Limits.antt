@@ -14,4 +14,7 @@ pub record HasLimits (client : Client) : Type 0 where
 -- so it is in a new shard, which has no connections, and each step keeps it
 pub record LimitsStay : Type 0 where
   pub start : (shard shards : ℕ) → Each HasLimits (new_shard shard shards).clients
-  pub step : (old : State) (event : Event) (outcome : Result Answer ShardFault) (new : State) → IsStep old event outcome new → Each HasLimits old.clients → Each HasLimits new.clients
+  pub step : (old : State) (event : Event) (outcome : Result Answer ShardFault) (new : State)
+      → IsStep old event outcome new
+      → Each HasLimits old.clients
+      → Each HasLimits new.clients

@@ -15,8 +15,9 @@ abbrev pub begun_turn : Option Job → ℕ → ℕ
 begun_turn None finished = finished
 begun_turn (Some job) finished = suc finished
 
--- The job in hand is that of the next turn, the jobs that wait follow, one for each turn up to the last one issued, and the
--- shard is at most a window behind. Open subscriptions have serials of their own, among those given.
+-- The job in hand is that of the next turn, the jobs that wait follow, one for each turn up to the
+-- last one issued, and the shard is at most a window behind. Open subscriptions have serials of
+-- their own, among those given.
 pub record SoundLine (window issued : ℕ) (s : State) (waiting : List Job) : Type 0 where
   pub hand : (job : Job) → s.hand ≡ Some job → job.turn ≡ suc s.finished
   pub turns : Turns (begun_turn s.hand s.finished) waiting issued

@@ -1,4 +1,5 @@
--- What is noted of the members of queue groups that match a subject, so that one look serves all queue names of a job.
+-- What is noted of the members of queue groups that match a subject, so that one look serves all
+-- queue names of a job.
 use Rattle.std.specs.Prelude.{◌≡◌, ℕ, ◌+◌, ◌*◌, ◌%◌, ◌^◌, Bool, true, nat_eq, List, [], ◌∷◌, ◌++◌, map, filter, Option, Some, None, is_some, if◌then◌else◌}
 use Rattle.std.specs.List.{find}
 use Rattle.std.specs.Option.{option_to_list}
@@ -41,8 +42,10 @@ AreNoted subs m = m.noted ≡ true → m.members.items ≡ members_of (filter (g
 
 -- the open subscription of a member of this mark
 abbrev pub found_at : List Subscription → ℕ → Member → Option Subscription
-found_at subs mark member = if nat_eq member.mark mark then find (has_serial member.serial) subs else None
+found_at subs mark member =
+    if nat_eq member.mark mark then find (has_serial member.serial) subs else None
 
 abbrev pub found_of : List Subscription → ℕ → List Member → List Subscription
 found_of subs mark [] = []
-found_of subs mark (member ∷ members) = option_to_list (found_at subs mark member) ++ found_of subs mark members
+found_of subs mark (member ∷ members) =
+    option_to_list (found_at subs mark member) ++ found_of subs mark members

@@ -1,4 +1,5 @@
--- The open subscriptions of a shard, and the openings and closings that its hub was not told of yet.
+-- The open subscriptions of a shard, and the openings and closings that its hub was not told of
+-- yet.
 use Rattle.std.specs.Prelude.{◌≡◌, ◌≢◌, ℕ, ◌+◌, ◌<◌, ◌≤◌, ◌^◌, List, [], ◌∷◌, ◌++◌, length, map, filter, All}
 use Rattle.subj.specs.declared.keys.Delta.{Delta}
 use Rattle.list_laws.specs.Lists.{Each, Pairs}
@@ -54,7 +55,10 @@ with_counts given o = record o { subs = map (sub_with_count given) o.subs }
 
 -- these close in this order, and leave their deltas
 abbrev pub with_closings : List ℕ → Opened → Opened
-with_closings ended o = record { subs = filter (is_left ended) o.subs; deltas = o.deltas ++ closings_of ended o.subs }
+with_closings ended o = record {
+  subs = filter (is_left ended) o.subs;
+  deltas = o.deltas ++ closings_of ended o.subs;
+}
 
 -- the hub was told of all
 abbrev pub all_told : Opened → Opened
@@ -62,7 +66,8 @@ all_told o = record o { deltas = [] }
 
 -- ---- what the fields keep
 
-pub record IsOpened (subs : List Subscription) (deltas : List Delta) (capacity : ℕ) (notes : Notes) : Type 0 where
+pub record IsOpened (subs : List Subscription) (deltas : List Delta) (capacity : ℕ)
+    (notes : Notes) : Type 0 where
   pub rising : AreRising subs
   pub noted : HoldNotes subs notes
   -- a place for the closing delta of each open subscription

@@ -12,4 +12,8 @@ option_after other conn option = option
 
 pub record OptionsAreChosen : Type 0 where
   pub start : (shard shards conn : ℕ) → takes_headers conn (new_shard shard shards).clients ≡ false
-  pub step : (s : State) (e : Event) → shard_refusal s e ≡ None → (conn : ℕ) → takes_headers conn (shard_after s e).clients ≡ option_after e conn (takes_headers conn s.clients)
+  pub step : (s : State) (e : Event)
+      → shard_refusal s e ≡ None
+      → (conn : ℕ)
+      → takes_headers conn (shard_after s e).clients
+      ≡ option_after e conn (takes_headers conn s.clients)

@@ -17,18 +17,22 @@ put_line line conn = record { conn = conn; entry = reply_entry line; headers = f
 
 -- the messages of a walk, and behind them the last lines of the connections that it shut
 abbrev pub put_by_walk : State → Job → Walk → List Placed
-put_by_walk s job w = map (owed_placed s.shard s.clients job None) w.given ++ map (put_line slow_consumer) w.shut
+put_by_walk s job w =
+    map (owed_placed s.shard s.clients job None) w.given ++ map (put_line slow_consumer) w.shut
 
 abbrev pub put_by_claim : State → Option Job → Option Subscription → Bool → List Placed
 put_by_claim s None sub won = []
 put_by_claim s (Some job) None won = []
-put_by_claim s (Some job) (Some sub) won = if won then owed_placed s.shard s.clients job sub.key.queue sub ∷ [] else []
+put_by_claim s (Some job) (Some sub) won =
+    if won then owed_placed s.shard s.clients job sub.key.queue sub ∷ [] else []
 
 abbrev pub put_by : State → Event → List Placed
 put_by s Attach = []
 put_by s (Subscribe conn key sid) = []
 put_by s (Unsubscribe conn sid max) = []
-put_by s (Reply conn frame) = if answer_fits s conn (reply_line frame) then put_line (reply_line frame) conn ∷ [] else put_line slow_consumer conn ∷ []
+put_by s (Reply conn frame) =
+    if answer_fits s conn (reply_line frame) then put_line (reply_line frame) conn ∷ []
+    else put_line slow_consumer conn ∷ []
 put_by s (SetHeaders conn on) = []
 put_by s (Shut conn text) = put_line (err_line text) conn ∷ []
 put_by s (Detach conn) = []
@@ -44,8 +48,8 @@ put_by s Collect = []
 abbrev pub entries_for : ℕ → List Placed → List Written
 entries_for conn puts = map (λ put. put.entry) (filter (λ put. nat_eq put.conn conn) puts)
 
--- what waits for a connection after an event: what waited, without what the client took or all if it went, and behind it
--- what the event put
+-- what waits for a connection after an event: what waited, without what the client took or all if
+-- it went, and behind it what the event put
 abbrev pub kept_of : Event → ℕ → List Written → List Written
 kept_of Attach conn entries = entries
 kept_of (Subscribe of key sid) conn entries = entries
@@ -64,4 +68,6 @@ kept_of Collect conn entries = entries
 
 -- what an event that is not refused shows in the outbox of each connection
 pub record ArePut (s : State) (event : Event) (conn : ℕ) : Type 0 where
-  pub entries : shard_refusal s event ≡ None → waits_for conn (shard_after s event).clients ≡ kept_of event conn (waits_for conn s.clients) ++ entries_for conn (put_by s event)
+  pub entries : shard_refusal s event ≡ None
+      → waits_for conn (shard_after s event).clients
+      ≡ kept_of event conn (waits_for conn s.clients) ++ entries_for conn (put_by s event)

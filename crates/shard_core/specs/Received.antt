@@ -3,7 +3,8 @@ use Rattle.std.specs.Prelude.{ℕ, Bool, List, map, is_some, is_none}
 use Rattle.client_frames.specs.Messages.{head_bytes}
 use Rattle.sub_table.specs.declared.Subscription.{Subscription}
 
--- its serial, its connection, whether it has no queue name, whether it has a maximum, and what its messages begin with
+-- its serial, its connection, whether it has no queue name, whether it has a maximum, and what its
+-- messages begin with
 pub record Received : Type 0 where
   pub serial : ℕ
   pub conn : ℕ
@@ -12,7 +13,13 @@ pub record Received : Type 0 where
   pub head : List ℕ
 
 abbrev pub receiver_of : List ℕ → Subscription → Received
-receiver_of subject sub = record { serial = sub.serial; conn = sub.conn; is_plain = is_none sub.key.queue; is_limited = is_some sub.max; head = head_bytes subject sub.sid }
+receiver_of subject sub = record {
+  serial = sub.serial;
+  conn = sub.conn;
+  is_plain = is_none sub.key.queue;
+  is_limited = is_some sub.max;
+  head = head_bytes subject sub.sid;
+}
 
 abbrev pub receivers_of : List ℕ → List Subscription → List Received
 receivers_of subject subs = map (receiver_of subject) subs

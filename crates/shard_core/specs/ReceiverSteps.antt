@@ -18,7 +18,9 @@ is_due_to job r = r.is_plain && may_get_at job r.conn
 
 -- the entry of a message in two parts
 abbrev pub entry_for : ℕ → PubId → Tails → Received → Bool → Written
-entry_for shard id tails r option = spelt_entry id (id_of shard r.serial) Plain (head_for tails r.head option ++ tail_for tails option)
+entry_for shard id tails r option =
+    spelt_entry id (id_of shard r.serial) Plain
+    (head_for tails r.head option ++ tail_for tails option)
 
 -- the next message is the last one
 abbrev pub is_last_of : Option Subscription → Bool
@@ -30,9 +32,13 @@ ends_at subs r = r.is_limited && is_last_of (find (has_serial r.serial) subs)
 
 -- the subscription of this serial was given a message, its last one or not; no copy is kept
 abbrev pub with_noted : ℕ → Bool → Tallied → Tallied
-with_noted serial ends t = record t { given = t.given ++ serial ∷ []; ended = t.ended ++ (if ends then serial ∷ [] else []) }
+with_noted serial ends t = record t {
+  given = t.given ++ serial ∷ [];
+  ended = t.ended ++ (if ends then serial ∷ [] else []);
+}
 
 -- the receiver is this open subscription
-pub record IsFoundAs (subs : List Subscription) (subject : List ℕ) (r : Received) (sub : Subscription) : Type 0 where
+pub record IsFoundAs (subs : List Subscription) (subject : List ℕ) (r : Received)
+    (sub : Subscription) : Type 0 where
   pub found : find (has_serial sub.serial) subs ≡ Some sub
   pub receiver : r ≡ receiver_of subject sub

@@ -24,8 +24,8 @@ pub data Event : Type 0 where
   -- with whether the race was won; it is not looked at where there is no candidate
   Claim : (index : ℕ) (won : Bool) → Event
   End : Event
-  -- The job in hand is done without the rest of it. Where none is in hand, the job that waits is handed over and done unbegun:
-  -- a shard does not hold its line.
+  -- The job in hand is done without the rest of it. Where none is in hand, the job that waits is
+  -- handed over and done unbegun: a shard does not hold its line.
   DropJob : (waiting : Option Job) → Event
   -- no subscription is taken any more
   Drain : Event

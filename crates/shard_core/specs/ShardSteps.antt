@@ -53,11 +53,13 @@ begin_refusal s job =
 -- the queue names of a job are claimed one after the other
 abbrev pub claim_refusal : State → ℕ → Option Job → Option ShardFault
 claim_refusal s index None = Some NoJob
-claim_refusal s index (Some job) = if nat_eq index s.next_index && nat_lt index (length job.queues) then None else Some BadIndex
+claim_refusal s index (Some job) =
+    if nat_eq index s.next_index && nat_lt index (length job.queues) then None else Some BadIndex
 
 abbrev pub end_refusal : State → Option Job → Option ShardFault
 end_refusal s None = Some NoJob
-end_refusal s (Some job) = if nat_eq s.next_index (length job.queues) then None else Some NotAllTried
+end_refusal s (Some job) =
+    if nat_eq s.next_index (length job.queues) then None else Some NotAllTried
 
 abbrev pub shard_refusal : State → Event → Option ShardFault
 shard_refusal s Attach = if nat_lt MAX_COUNTER s.next_conn then Some Spent else None
@@ -78,32 +80,56 @@ shard_refusal s Collect = None
 -- ---- the state after an event that is not refused
 
 abbrev pub new_client : ℕ → Client
-new_client number = record { number = number; outbox = empty_backlog; max_entries = OUTBOX_ENTRIES; max_bytes = OUTBOX_BYTES; headers = false }
+new_client number = record {
+  number = number;
+  outbox = empty_backlog;
+  max_entries = OUTBOX_ENTRIES;
+  max_bytes = OUTBOX_BYTES;
+  headers = false;
+}
 
 abbrev pub after_attach : State → State
-after_attach s = record s { next_conn = s.next_conn + s.shards; clients = s.clients ++ new_client s.next_conn ∷ [] }
+after_attach s = record s {
+  next_conn = s.next_conn + s.shards;
+  clients = s.clients ++ new_client s.next_conn ∷ [];
+}
 
 abbrev pub new_sub : State → ℕ → Key → List ℕ → Subscription
-new_sub s conn key sid = record { serial = s.opened + 1; conn = conn; key = key; sid = sid; delivered = 0; max = None }
+new_sub s conn key sid = record {
+  serial = s.opened + 1;
+  conn = conn;
+  key = key;
+  sid = sid;
+  delivered = 0;
+  max = None;
+}
 
 -- NATS documentation, "Client Protocol", `SUB`; profile: a sid that is open changes nothing
 abbrev pub after_subscribe : State → Subscription → Option Subscription → State
 after_subscribe s sub (Some same) = s
-after_subscribe s sub None = record s { opened = s.opened + 1; subs = s.subs ++ sub ∷ []; deltas = s.deltas ++ opening sub.key ∷ [] }
+after_subscribe s sub None = record s {
+  opened = s.opened + 1;
+  subs = s.subs ++ sub ∷ [];
+  deltas = s.deltas ++ opening sub.key ∷ [];
+}
 
--- NATS documentation, "Client Protocol", `UNSUB`: at once, or once so many messages were delivered; profile: a sid that is
--- not open changes nothing, and a later maximum replaces an earlier one
+-- NATS documentation, "Client Protocol", `UNSUB`: at once, or once so many messages were delivered;
+-- profile: a sid that is not open changes nothing, and a later maximum replaces an earlier one
 abbrev pub ended_now : Option ℕ → Subscription → Bool
 ended_now None sub = true
 ended_now (Some max) sub = nat_le max sub.delivered
 
 abbrev pub after_unsubscribe : State → Option ℕ → Option Subscription → State
 after_unsubscribe s max None = s
-after_unsubscribe s max (Some sub) = if ended_now max sub then without_subs (sub.serial ∷ []) s else record s { subs = with_max sub.serial max s.subs }
+after_unsubscribe s max (Some sub) =
+    if ended_now max sub then without_subs (sub.serial ∷ []) s
+    else record s { subs = with_max sub.serial max s.subs }
 
 -- a connection is shut: its last line is put, and all its subscriptions close
 abbrev pub was_shut : State → ℕ → List ℕ → State
-was_shut s conn line = without_subs (left_of conn [] s.subs) (record s { clients = clients_with_change (with_last line) conn s.clients })
+was_shut s conn line =
+    without_subs (left_of conn [] s.subs)
+    (record s { clients = clients_with_change (with_last line) conn s.clients })
 
 -- an answer is put, or for want of room its connection is shut
 abbrev pub answer_fits : State → ℕ → List ℕ → Bool
@@ -121,7 +147,8 @@ after_choice s conn on = record s { clients = clients_with_headers on conn s.cli
 
 -- a connection goes, and all its subscriptions close
 abbrev pub was_detached : State → ℕ → State
-was_detached s conn = without_subs (left_of conn [] s.subs) (record s { clients = without_client conn s.clients })
+was_detached s conn =
+    without_subs (left_of conn [] s.subs) (record s { clients = without_client conn s.clients })
 
 -- a job is done, and with it its turn
 abbrev pub done_with : State → Option Job → State
@@ -130,13 +157,16 @@ done_with s (Some job) = record s { finished = job.turn; hand = None; next_index
 
 abbrev pub shard_after : State → Event → State
 shard_after s Attach = after_attach s
-shard_after s (Subscribe conn key sid) = after_subscribe s (new_sub s conn key sid) (sub_called conn sid s.subs)
+shard_after s (Subscribe conn key sid) =
+    after_subscribe s (new_sub s conn key sid) (sub_called conn sid s.subs)
 shard_after s (Unsubscribe conn sid max) = after_unsubscribe s max (sub_called conn sid s.subs)
 shard_after s (Reply conn frame) = after_reply s conn (reply_line frame)
 shard_after s (SetHeaders conn on) = after_choice s conn on
 shard_after s (Shut conn text) = was_shut s conn (err_line text)
 shard_after s (Detach conn) = was_detached s conn
-shard_after s (Take conn count) = record s { clients = clients_with_change (without_first count) conn s.clients }
+shard_after s (Take conn count) = record s {
+  clients = clients_with_change (without_first count) conn s.clients;
+}
 shard_after s (Begin job) = after_begin s job
 shard_after s (Claim index won) = after_claim s s.hand (candidate_of s s.hand index) won
 shard_after s End = done_with s s.hand
@@ -158,19 +188,26 @@ abbrev pub ended_by_reply : State → ℕ → List ℕ → List ℕ
 ended_by_reply s conn line = if answer_fits s conn line then [] else left_of conn [] s.subs
 
 abbrev pub begin_answer : State → Job → Walk → Answer
-begin_answer s job w = Began (map (owed_placed s.shard s.clients job None) w.given) w.shut (ended_ids s.shard w.ended)
+begin_answer s job w =
+    Began (map (owed_placed s.shard s.clients job None) w.given) w.shut (ended_ids s.shard w.ended)
 
 abbrev pub claim_answer : State → Option Job → Option Subscription → Bool → Answer
 claim_answer s None sub won = Nobody
 claim_answer s (Some job) None won = Nobody
 claim_answer s (Some job) (Some sub) won =
-    if won then Won (id_of s.shard sub.serial) (owed_placed s.shard s.clients job sub.key.queue sub) (ended_ids s.shard (ended_by sub)) else Lost
+    if won
+    then Won (id_of s.shard sub.serial) (owed_placed s.shard s.clients job sub.key.queue sub)
+    (ended_ids s.shard (ended_by sub))
+    else Lost
 
 abbrev pub shard_answer : State → Event → Answer
 shard_answer s Attach = Attached s.next_conn
 shard_answer s (Subscribe conn key sid) = subscribe_answer s (sub_called conn sid s.subs)
-shard_answer s (Unsubscribe conn sid max) = Unsubscribed (ended_ids s.shard (ended_by_unsubscribe max (sub_called conn sid s.subs)))
-shard_answer s (Reply conn frame) = Replied (not (answer_fits s conn (reply_line frame))) (ended_ids s.shard (ended_by_reply s conn (reply_line frame)))
+shard_answer s (Unsubscribe conn sid max) =
+    Unsubscribed (ended_ids s.shard (ended_by_unsubscribe max (sub_called conn sid s.subs)))
+shard_answer s (Reply conn frame) =
+    Replied (not (answer_fits s conn (reply_line frame)))
+    (ended_ids s.shard (ended_by_reply s conn (reply_line frame)))
 shard_answer s (SetHeaders conn on) = HeadersSet
 shard_answer s (Shut conn text) = WasShut (ended_ids s.shard (left_of conn [] s.subs))
 shard_answer s (Detach conn) = Detached (ended_ids s.shard (left_of conn [] s.subs))
@@ -182,7 +219,8 @@ shard_answer s (DropJob waiting) = Dropped (option_or s.hand waiting)
 shard_answer s Drain = Drains
 shard_answer s Collect = Collected s.deltas
 
--- ---- who is told: the connections that an event shut, and the subscriptions that an answer tells closed, in order
+-- ---- who is told: the connections that an event shut, and the subscriptions that an answer tells
+-- closed, in order
 
 abbrev pub shut_by : State → Event → List ℕ
 shut_by s Attach = []

@@ -14,10 +14,11 @@ pub record Client : Type 0 where
   pub max_bytes : ℕ
   pub headers : Bool
 
--- A shard of a server (profile): which of how many it is, counted from 1; the number of its next connection; how many
--- subscriptions it has opened; the last turn that it finished; the job that it works off, and the index of the queue name
--- to be claimed next there; its connections in order of attaching; its open subscriptions in order of opening; whether
--- it drains, and takes no more of them; and the openings and closings that the hub was not told of yet, in order.
+-- A shard of a server (profile): which of how many it is, counted from 1; the number of its next
+-- connection; how many subscriptions it has opened; the last turn that it finished; the job that it
+-- works off, and the index of the queue name to be claimed next there; its connections in order of
+-- attaching; its open subscriptions in order of opening; whether it drains, and takes no more of
+-- them; and the openings and closings that the hub was not told of yet, in order.
 pub record State : Type 0 where
   pub shard : ℕ
   pub shards : ℕ
@@ -33,7 +34,19 @@ pub record State : Type 0 where
 
 -- a shard without connections; it numbers them s, s + K, s + 2K, .. (profile)
 abbrev pub new_shard : ℕ → ℕ → State
-new_shard shard shards = record { shard = shard; shards = shards; next_conn = shard; opened = 0; finished = 0; hand = None; next_index = 0; clients = []; subs = []; draining = false; deltas = [] }
+new_shard shard shards = record {
+  shard = shard;
+  shards = shards;
+  next_conn = shard;
+  opened = 0;
+  finished = 0;
+  hand = None;
+  next_index = 0;
+  clients = [];
+  subs = [];
+  draining = false;
+  deltas = [];
+}
 
 -- ---- connections
 
@@ -61,10 +74,12 @@ with_outbox change client = record client { outbox = change client.outbox }
 
 abbrev pub clients_with_change : (Backlog → Backlog) → ℕ → List Client → List Client
 clients_with_change change number [] = []
-clients_with_change change number (client ∷ clients) = if has_number number client then with_outbox change client ∷ clients else client ∷ clients_with_change change number clients
+clients_with_change change number (client ∷ clients) =
+    if has_number number client then with_outbox change client ∷ clients
+    else client ∷ clients_with_change change number clients
 
--- NATS documentation, "Client Protocol", "CONNECT", `headers`: a connection that takes them is sent a message with its header block
--- by `HMSG`; one that is not there takes none
+-- NATS documentation, "Client Protocol", "CONNECT", `headers`: a connection that takes them is sent
+-- a message with its header block by `HMSG`; one that is not there takes none
 abbrev pub option_of : Option Client → Bool
 option_of None = false
 option_of (Some client) = client.headers
@@ -78,7 +93,9 @@ with_headers on client = record client { headers = on }
 
 abbrev pub clients_with_headers : Bool → ℕ → List Client → List Client
 clients_with_headers on number [] = []
-clients_with_headers on number (client ∷ clients) = if has_number number client then with_headers on client ∷ clients else client ∷ clients_with_headers on number clients
+clients_with_headers on number (client ∷ clients) =
+    if has_number number client then with_headers on client ∷ clients
+    else client ∷ clients_with_headers on number clients
 
 -- the list without the connection
 abbrev pub without_client : ℕ → List Client → List Client

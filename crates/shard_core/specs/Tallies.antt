@@ -13,8 +13,9 @@ use Rattle.shard_core.specs.Opened.{Opened, with_counts, with_closings}
 use Rattle.shard_core.specs.Owed.{Walk, whole_walk, walk_after_put, owed_placed, slow_consumer, ended_by, is_plain, is_permitted}
 use Rattle.shard_core.specs.Puts.{put_line}
 
--- the shard that walks, and whether copies of the entries are asked for; those of the messages, the serials of those who were given an entry,
--- the connections that were shut, and the serials of those that closed
+-- the shard that walks, and whether copies of the entries are asked for; those of the messages, the
+-- serials of those who were given an entry, the connections that were shut, and the serials of
+-- those that closed
 pub record Tallied : Type 0 where
   pub shard : ℕ
   pub copies : Bool
@@ -24,19 +25,41 @@ pub record Tallied : Type 0 where
   pub ended : List ℕ
 
 abbrev pub none_tallied : ℕ → Bool → Tallied
-none_tallied shard copies = record { shard = shard; copies = copies; put = []; given = []; shut = []; ended = [] }
+none_tallied shard copies = record {
+  shard = shard;
+  copies = copies;
+  put = [];
+  given = [];
+  shut = [];
+  ended = [];
+}
 
 abbrev pub with_given : Placed → Subscription → Tallied → Tallied
-with_given placed sub t = record t { put = t.put ++ copies_of t.copies (placed ∷ []); given = t.given ++ sub.serial ∷ []; ended = t.ended ++ ended_by sub }
+with_given placed sub t = record t {
+  put = t.put ++ copies_of t.copies (placed ∷ []);
+  given = t.given ++ sub.serial ∷ [];
+  ended = t.ended ++ ended_by sub;
+}
 
 abbrev pub with_shut : List Subscription → ℕ → Tallied → Tallied
-with_shut subs conn t = record t { shut = t.shut ++ conn ∷ []; ended = t.ended ++ left_of conn t.ended subs }
+with_shut subs conn t = record t {
+  shut = t.shut ++ conn ∷ [];
+  ended = t.ended ++ left_of conn t.ended subs;
+}
 
 -- what is kept of this walk
 abbrev pub tally_of : ℕ → List Client → Bool → Job → Walk → Tallied
-tally_of shard clients copies job w = record { shard = shard; copies = copies; put = copies_of copies (map (owed_placed shard clients job None) w.given); given = serials_of w.given; shut = w.shut; ended = w.ended }
+tally_of shard clients copies job w = record {
+  shard = shard;
+  copies = copies;
+  put = copies_of copies (map (owed_placed shard clients job None) w.given);
+  given = serials_of w.given;
+  shut = w.shut;
+  ended = w.ended;
+}
 
-pub record IsTallied (copies : Bool) (s : State) (job : Job) (w : Walk) (clients : List Client) (t : Tallied) : Type 0 where
+pub record IsTallied (copies : Bool) (s : State) (job : Job) (w : Walk) (clients : List Client)
+    (t : Tallied) : Type 0 where
   pub clients_are : clients ≡ w.clients
   pub tally_is : t ≡ tally_of s.shard s.clients copies job w
   -- the options are those from before the walk
@@ -47,14 +70,19 @@ abbrev pub with_lines : Tallied → Tallied
 with_lines t = record t { put = t.put ++ copies_of t.copies (map (put_line slow_consumer) t.shut) }
 
 -- what is kept of the whole walk of a job
-pub record IsStaged (copies : Bool) (s : State) (job : Job) (clients : List Client) (t : Tallied) : Type 0 where
+pub record IsStaged (copies : Bool) (s : State) (job : Job) (clients : List Client) (t : Tallied) :
+    Type 0 where
   pub clients_are : clients ≡ (whole_walk s job).clients
   pub tally_is : t ≡ with_lines (tally_of s.shard s.clients copies job (whole_walk s job))
 
 -- over these open subscriptions the walk goes on by this step
-abbrev pub Follows : List Subscription → Job → (State → Walk → Walk) → List Client → Tallied → List Client → Tallied → Type 0
+abbrev pub Follows : List Subscription → Job → (State → Walk → Walk) → List Client → Tallied
+    → List Client → Tallied → Type 0
 Follows subs job step clients t clients' t' =
-    (copies : Bool) (s : State) (w : Walk) → s.subs ≡ subs → IsTallied copies s job w clients t → IsTallied copies s job (step s w) clients' t'
+    (copies : Bool) (s : State) (w : Walk)
+    → s.subs ≡ subs
+    → IsTallied copies s job w clients t
+    → IsTallied copies s job (step s w) clients' t'
 
 -- of those that match, Begin places for the plain ones that may get it
 abbrev pub is_placed : Job → Subscription → Bool
@@ -73,7 +101,11 @@ abbrev pub lent_subs : List (Bor Subscription) → List Subscription
 lent_subs subs = map (λ sub. sub.now) subs
 
 -- a shard of these parts placed the job
-pub record HasPlaced (copies : Bool) (s : State) (job : Job) (openings : Opened) (begun : Begun) (conns' : Clients) (openings' : Opened) : Type 0 where
-  pub conns : conns' ≡ record { shown = (whole_walk s job).clients; next = (whole_walk s job).clients }
-  pub openings_are : openings' ≡ with_closings (whole_walk s job).ended (with_counts (serials_of (whole_walk s job).given) openings)
+pub record HasPlaced (copies : Bool) (s : State) (job : Job) (openings : Opened) (begun : Begun)
+    (conns' : Clients) (openings' : Opened) : Type 0 where
+  pub conns :
+      conns' ≡ record { shown = (whole_walk s job).clients; next = (whole_walk s job).clients }
+  pub openings_are : openings'
+      ≡ with_closings (whole_walk s job).ended
+      (with_counts (serials_of (whole_walk s job).given) openings)
   pub told : IsTold copies s job begun

@@ -2,7 +2,7 @@
 
 ghost use Rattle.std.specs.List.{list_all, list_any};
 ghost use Rattle.sub_table.specs.Subscriptions.{is_room, matching_of};
-ghost use Rattle.shard_core.specs.Boxes.{room_left, AreRising, AreConns, IsSettled, IsSettledAt, on_both, on_shown, client_in_view, shown_backlog, next_backlog, number_of, HasRoomAt, IsBoxStaged, IsOpenAt, IsSeated, IsSeatOf, IsStanding, AreAlike, form_length, standing_of};
+ghost use Rattle.shard_core.specs.Boxes.{room_left, AreRising, AreConns, IsSettled, IsSettledAt, on_both, on_shown, client_in_view, shown_backlog, next_backlog, number_of, HasRoomAt, IsBoxStaged, IsOpenAt, IsSeated, IsSeatOf, IsStanding, AreAlike, form_length};
 ghost use Rattle.std.specs.Prelude.{map, filter, not, nat_eq, nat_le, ◌&&◌, ◌≡◌, ◌==◌, ◌≤◌, ◌+◌, ◌-◌, ◌<◌, ◌^◌, ◌++◌, ◌∷◌, [], true, false, position, take, length, All, IsTrue, IfOk, IfSome, OnOk, OnErr, None, Some};
 ghost use Rattle.std.specs.Option.{option_map, option_copied};
 ghost use Rattle.outbox.specs.Views.{has_room, with_entry, with_last, without_first, size_of, reply_entry, message_entry, message_run, spelt_entry, with_entries, bytes_of_all};
@@ -15,11 +15,12 @@ ghost use Rattle.shard_core.specs.RunSteps.{TakesRun, TakesRunAt};
 ghost use Rattle.shard_core.specs.ShardSteps.{new_client};
 
 use crate::dirty_conns::DirtyConns;
+use crate::standings::{FormLengths, Seat, Standing, len_of, room_of, standing_at};
 use bytes::Bytes;
 use outbox::{Entry, LAST_LINE_TEXT, Mode, Outbox, RunTails};
 use std::alloc::{AllocError, Global};
 use std::marker::Model;
-use sub_table::{Room, SubTable};
+use sub_table::SubTable;
 use subj::{ConnId, OUTBOX_BYTES, OUTBOX_ENTRIES, PubId, SubId, Subject};
 
 /// A connection.
@@ -43,7 +44,8 @@ fn place_of(conns: &[Conn], number: u64) -> Option<usize>
 #[tactic(auto, using(crate::proofs::Clients::Lookups::numbers_stay))]
 fn commit_at(conns: &mut [Conn], place: usize)
     ensures numbers { map number_of conns.new ≡ map number_of conns.old }
-    ensures next { map (client_in_view next_backlog) conns.new ≡ map (client_in_view next_backlog) conns.old }
+    ensures next { map (client_in_view next_backlog) conns.new
+        ≡ map (client_in_view next_backlog) conns.old }
     ensures settled { IsSettledAt place conns.old conns.new }
 {
     if place < conns.len() {
@@ -55,8 +57,10 @@ fn commit_at(conns: &mut [Conn], place: usize)
 /// Shows what was staged, which stands at these places and nowhere else.
 fn commit_all(conns: &mut [Conn], places: &[usize])
     requires { AreConns places.now conns.old }
-    ensures shown { map (client_in_view shown_backlog) conns.new ≡ map (client_in_view next_backlog) conns.old }
-    ensures next { map (client_in_view next_backlog) conns.new ≡ map (client_in_view next_backlog) conns.old }
+    ensures shown { map (client_in_view shown_backlog) conns.new
+        ≡ map (client_in_view next_backlog) conns.old }
+    ensures next { map (client_in_view next_backlog) conns.new
+        ≡ map (client_in_view next_backlog) conns.old }
     ensures settled { AreConns [] conns.new }
 {
     for place in places {
@@ -68,7 +72,8 @@ fn commit_all(conns: &mut [Conn], places: &[usize])
 #[tactic(auto, using(crate::proofs::Clients::Lookups::numbers_stay))]
 fn rollback_at(conns: &mut [Conn], place: usize)
     ensures numbers { map number_of conns.new ≡ map number_of conns.old }
-    ensures shown { map (client_in_view shown_backlog) conns.new ≡ map (client_in_view shown_backlog) conns.old }
+    ensures shown { map (client_in_view shown_backlog) conns.new
+        ≡ map (client_in_view shown_backlog) conns.old }
     ensures settled { IsSettledAt place conns.old conns.new }
 {
     if place < conns.len() {
@@ -80,8 +85,10 @@ fn rollback_at(conns: &mut [Conn], place: usize)
 /// Drops what was staged, which stands at these places and nowhere else.
 fn rollback_all(conns: &mut [Conn], places: &[usize])
     requires { AreConns places.now conns.old }
-    ensures shown { map (client_in_view shown_backlog) conns.new ≡ map (client_in_view shown_backlog) conns.old }
-    ensures next { map (client_in_view next_backlog) conns.new ≡ map (client_in_view shown_backlog) conns.old }
+    ensures shown { map (client_in_view shown_backlog) conns.new
+        ≡ map (client_in_view shown_backlog) conns.old }
+    ensures next { map (client_in_view next_backlog) conns.new
+        ≡ map (client_in_view shown_backlog) conns.old }
     ensures settled { AreConns [] conns.new }
 {
     for place in places {
@@ -100,7 +107,8 @@ fn place_in(conns: &Vec<Conn>, conn: ConnId) -> Option<usize>
 /// Whether the connection of this number stands at the place.
 fn is_at(conns: &Vec<Conn>, place: usize, number: u64) -> bool
     requires { AreRising conns.now.items }
-    ensures { result ≡ true → position (λ conn. conn.number == number) conns.now.items ≡ Some place }
+    ensures { result ≡ true
+        → position (λ conn. conn.number == number) conns.now.items ≡ Some place }
 {
     if place >= conns.len() {
         return false;
@@ -122,66 +130,14 @@ fn place_near(conns: &Vec<Conn>, near: usize, conn: ConnId) -> Option<usize>
 /// The connection, where it is there.
 fn conn_of(conns: &Vec<Conn>, conn: ConnId) -> Option<&Conn>
     requires { AreRising conns.now.items }
-    ensures shown { option_map (client_in_view shown_backlog) (option_copied result) ≡ client_at conn (map (client_in_view shown_backlog) conns.now.items) }
-    ensures next { option_map (client_in_view next_backlog) (option_copied result) ≡ client_at conn (map (client_in_view next_backlog) conns.now.items) }
+    ensures shown { option_map (client_in_view shown_backlog) (option_copied result)
+        ≡ client_at conn (map (client_in_view shown_backlog) conns.now.items) }
+    ensures next { option_map (client_in_view next_backlog) (option_copied result)
+        ≡ client_at conn (map (client_in_view next_backlog) conns.now.items) }
 {
     match place_in(conns, conn) {
         None => None,
         Some(place) => Some(&conns[place]),
-    }
-}
-
-/// How many bytes a message has in each of its two forms. Both are the same where it has no header block.
-#[derive(Clone, Copy)]
-pub struct FormLengths {
-    /// At a connection that takes no headers.
-    pub plain: usize,
-    /// At a connection that takes headers.
-    pub headed: usize,
-}
-
-/// How many bytes an entry has at a connection that takes headers or does not.
-fn len_of(lengths: FormLengths, takes_headers: bool) -> usize
-    ensures { result ≡ form_length lengths takes_headers }
-{
-    if takes_headers {
-        lengths.headed
-    } else {
-        lengths.plain
-    }
-}
-
-/// Where a connection stands.
-#[derive(Clone, Copy)]
-pub struct Seat {
-    conn: ConnId,
-    place: usize,
-    /// Whether the connection takes headers.
-    pub takes_headers: bool,
-}
-
-/// How a connection stands to an entry of so many bytes in the form that it is due, once all that was staged is shown.
-#[derive(Clone, Copy)]
-pub enum Standing {
-    /// It is not there, or it is shut.
-    Shut,
-    /// It is open and stands here, without room for the entry.
-    Full(Seat),
-    /// It stands here, with room for the entry.
-    Ready(Seat),
-}
-
-/// How the connection of this outbox stands to an entry of so many bytes in the form that it is due.
-fn standing_at(outbox: &Outbox, seat: Seat, lengths: FormLengths) -> Standing
-    ensures { result ≡ standing_of seat (has_room outbox.now.max_entries outbox.now.max_bytes (form_length lengths seat.takes_headers) outbox.now.next) outbox.now.next.shut }
-{
-    if outbox.room(len_of(lengths, seat.takes_headers)) {
-        return Standing::Ready(seat);
-    }
-    if outbox.is_closing() {
-        Standing::Shut
-    } else {
-        Standing::Full(seat)
     }
 }
 
@@ -199,8 +155,10 @@ fn seat_at(there: &Conn, conn: ConnId, place: usize) -> Seat
 /// Where the connection stands, which is looked for at this place first.
 fn seat_in(conns: &Vec<Conn>, near: usize, conn: ConnId) -> Option<Seat>
     requires { AreRising conns.now.items }
-    ensures none { result ≡ None → client_at conn (map (client_in_view next_backlog) conns.now.items) ≡ None }
-    ensures some { IfSome result (λ seat. IsSeatOf conn seat (map (client_in_view next_backlog) conns.now.items)) }
+    ensures none { result ≡ None
+        → client_at conn (map (client_in_view next_backlog) conns.now.items) ≡ None }
+    ensures some { IfSome result (λ seat.
+        IsSeatOf conn seat (map (client_in_view next_backlog) conns.now.items)) }
 {
     match place_near(conns, near, conn) {
         None => None,
@@ -249,16 +207,6 @@ fn note_all(dirty_conns: &mut DirtyConns, conns: &Vec<Conn>, places: &[usize])
     }
 }
 
-/// What room is left behind the entries that wait.
-fn room_of(outbox: &Outbox) -> Room
-    ensures { result ≡ record { entries = outbox.now.max_entries - length outbox.now.shown.entries; bytes = outbox.now.max_bytes - size_of outbox.now.shown.entries } }
-{
-    Room {
-        entries: outbox.entries_left(),
-        bytes: outbox.bytes_left(),
-    }
-}
-
 /// Whether the place is the last one of these.
 fn is_last(places: &Vec<usize>, place: usize) -> bool
     ensures { result ≡ true → list_any (nat_eq place) places.now.items ≡ true }
@@ -293,9 +241,13 @@ fn stage_parts_at(
 ) -> Result<(), AllocError>
     requires within { place < length conns.old.items }
     requires fits { length head.now + length tail.now < 2 ^ 64 }
-    requires room { HasRoomAt place (length (spelt_entry id sub mode (head.now ++ tail.now)).bytes) conns.old.items }
-    ensures ok { OnOk result (IsBoxStaged place (with_entry (spelt_entry id sub mode (head.now ++ tail.now))) conns.old.items conns.new.items) }
-    ensures err { OnErr result (IsBoxStaged place (λ backlog. backlog) conns.old.items conns.new.items) }
+    requires room { HasRoomAt place (length (spelt_entry id sub mode (head.now ++ tail.now)).bytes)
+        conns.old.items }
+    ensures ok { OnOk result (IsBoxStaged place
+        (with_entry (spelt_entry id sub mode (head.now ++ tail.now))) conns.old.items
+        conns.new.items) }
+    ensures err { OnErr result
+        (IsBoxStaged place (λ backlog. backlog) conns.old.items conns.new.items) }
 {
     let conn = &mut conns[place];
     conn.outbox.stage_parts(id, sub, mode, head, tail)?;
@@ -314,9 +266,13 @@ fn stage_message_at(
 ) -> Result<(), AllocError>
     requires within { place < length conns.old.items }
     requires fits { length line.now + length body.now + 4 < 2 ^ 64 }
-    requires room { HasRoomAt place (length (message_entry id sub mode line.now body.now).bytes) conns.old.items }
-    ensures ok { OnOk result (IsBoxStaged place (with_entry (message_entry id sub mode line.now body.now)) conns.old.items conns.new.items) }
-    ensures err { OnErr result (IsBoxStaged place (λ backlog. backlog) conns.old.items conns.new.items) }
+    requires room { HasRoomAt place (length (message_entry id sub mode line.now body.now).bytes)
+        conns.old.items }
+    ensures ok { OnOk result (IsBoxStaged place
+        (with_entry (message_entry id sub mode line.now body.now)) conns.old.items
+        conns.new.items) }
+    ensures err { OnErr result
+        (IsBoxStaged place (λ backlog. backlog) conns.old.items conns.new.items) }
 {
     let conn = &mut conns[place];
     conn.outbox.stage_message(id, sub, mode, line, body)?;
@@ -326,7 +282,8 @@ fn stage_message_at(
 /// Whether the connection at the place takes the messages of a run: it has room for all of them, and nothing is staged for it.
 fn takes_run_at(conns: &Vec<Conn>, place: usize, sub: SubId, head: &[u8], tails: &RunTails) -> bool
     requires within { place < length conns.now.items }
-    ensures { result ≡ true → TakesRunAt place (message_run sub head.now tails.now) conns.now.items }
+    ensures { result ≡ true
+        → TakesRunAt place (message_run sub head.now tails.now) conns.now.items }
 {
     let outbox = &conns[place].outbox;
     !outbox.has_staged() && outbox.room_for_run(sub, head, tails)
@@ -342,8 +299,10 @@ fn stage_run_at(
 ) -> Result<(), AllocError>
     requires within { place < length conns.old.items }
     requires takes { TakesRunAt place (message_run sub head.now tails.now) conns.old.items }
-    ensures ok { OnOk result (IsBoxStaged place (with_entries (message_run sub head.now tails.now)) conns.old.items conns.new.items) }
-    ensures err { OnErr result (IsBoxStaged place (λ backlog. backlog) conns.old.items conns.new.items) }
+    ensures ok { OnOk result (IsBoxStaged place (with_entries (message_run sub head.now tails.now))
+        conns.old.items conns.new.items) }
+    ensures err { OnErr result
+        (IsBoxStaged place (λ backlog. backlog) conns.old.items conns.new.items) }
 {
     let conn = &mut conns[place];
     conn.outbox.stage_run(sub, head, tails)?;
@@ -355,8 +314,10 @@ fn stage_last_at(conns: &mut Vec<Conn>, place: usize, line: &[u8]) -> Result<(),
     requires within { place < length conns.old.items }
     requires once { IsOpenAt place conns.old.items }
     requires small { length line.now ≤ LAST_LINE_TEXT }
-    ensures ok { OnOk result (IsBoxStaged place (with_last line.now) conns.old.items conns.new.items) }
-    ensures err { OnErr result (IsBoxStaged place (λ backlog. backlog) conns.old.items conns.new.items) }
+    ensures ok { OnOk result
+        (IsBoxStaged place (with_last line.now) conns.old.items conns.new.items) }
+    ensures err { OnErr result
+        (IsBoxStaged place (λ backlog. backlog) conns.old.items conns.new.items) }
 {
     let conn = &mut conns[place];
     conn.outbox.stage_last(line)?;
@@ -394,7 +355,10 @@ impl Model for Conns {
     ghost use Rattle.std.specs.Prelude.{map};
     ghost use Rattle.shard_core.specs.Boxes.{AreConns, client_in_view, shown_backlog, next_backlog};
 
-    ghost view = { λ c. record { shown = map (client_in_view shown_backlog) c.conns.items; next = map (client_in_view next_backlog) c.conns.items } };
+    ghost view = { λ c. record {
+      shown = map (client_in_view shown_backlog) c.conns.items;
+      next = map (client_in_view next_backlog) c.conns.items;
+    } };
 
     ghost invariant = { λ c. AreConns c.places.items c.conns.items };
 }
@@ -416,7 +380,8 @@ impl Conns {
     pub fn attach(&mut self, conn: ConnId) -> Result<(), AllocError>
         requires settled { IsSettled self.old }
         requires above { All (λ client. client.number < conn) self.old.shown }
-        ensures ok { OnOk result (self.new ≡ on_both (λ clients. clients ++ new_client conn ∷ []) self.old) }
+        ensures ok { OnOk result
+            (self.new ≡ on_both (λ clients. clients ++ new_client conn ∷ []) self.old) }
         ensures err { OnErr result (self.new ≡ self.old) }
     {
         let outbox = Outbox::new(self.alloc, OUTBOX_ENTRIES, OUTBOX_BYTES)?;
@@ -489,7 +454,11 @@ impl Conns {
     /// Whether each connection has room for the messages to all its open subscriptions that get the subject. In the form that the
     /// connection is due a message has so many bytes beside the id of a subscription. Takes no memory.
     pub fn have_room<T: SubTable>(&self, table: &T, subject: &Subject, lengths: FormLengths) -> bool
-        ensures { result ≡ list_all (λ client. is_room (form_length lengths client.headers) (room_left client) (matching_of client.number subject.now (T.contents table.now))) self.now.shown }
+        ensures { result
+            ≡ list_all (λ client.
+            is_room (form_length lengths client.headers) (room_left client)
+            (matching_of client.number subject.now (T.contents table.now)))
+            self.now.shown }
     {
         for conn in &self.conns {
             let number = ConnId::new(conn.number);
@@ -504,7 +473,9 @@ impl Conns {
     /// Whether the connection is there and has room for an entry of so many bytes in the form that it is due, behind all that was
     /// put or staged.
     pub fn has_room(&self, conn: ConnId, lengths: FormLengths) -> bool
-        ensures { result ≡ fits_len (client_at conn self.now.next) (form_length lengths (headers_taken conn self.now.next)) }
+        ensures { result
+            ≡ fits_len (client_at conn self.now.next)
+            (form_length lengths (headers_taken conn self.now.next)) }
     {
         match conn_of(&self.conns, conn) {
             None => false,
@@ -525,9 +496,12 @@ impl Conns {
     ) -> Result<(), AllocError>
         requires seat { IsSeated seat self.old.next }
         requires fits { length line.now + length body.now + 4 < 2 ^ 64 }
-        requires room { IsTrue (fits (client_at seat.conn self.old.next) (message_entry id sub mode line.now body.now)) }
+        requires room { IsTrue (fits (client_at seat.conn self.old.next)
+            (message_entry id sub mode line.now body.now)) }
         ensures shown { self.new.shown ≡ self.old.shown }
-        ensures ok { OnOk result (self.new.next ≡ clients_with_change (with_entry (message_entry id sub mode line.now body.now)) seat.conn self.old.next) }
+        ensures ok { OnOk result (self.new.next
+            ≡ clients_with_change (with_entry (message_entry id sub mode line.now body.now))
+            seat.conn self.old.next) }
         ensures err { OnErr result (self.new.next ≡ self.old.next) }
     {
         let place = seat.place;
@@ -549,9 +523,12 @@ impl Conns {
     ) -> Result<(), AllocError>
         requires seat { IsSeated seat self.old.next }
         requires fits { length head.now + length tail.now < 2 ^ 64 }
-        requires room { IsTrue (fits (client_at seat.conn self.old.next) (spelt_entry id sub mode (head.now ++ tail.now))) }
+        requires room { IsTrue (fits (client_at seat.conn self.old.next)
+            (spelt_entry id sub mode (head.now ++ tail.now))) }
         ensures shown { self.new.shown ≡ self.old.shown }
-        ensures ok { OnOk result (self.new.next ≡ clients_with_change (with_entry (spelt_entry id sub mode (head.now ++ tail.now))) seat.conn self.old.next) }
+        ensures ok { OnOk result (self.new.next
+            ≡ clients_with_change (with_entry (spelt_entry id sub mode (head.now ++ tail.now)))
+            seat.conn self.old.next) }
         ensures err { OnErr result (self.new.next ≡ self.old.next) }
     {
         let place = seat.place;
@@ -597,7 +574,8 @@ impl Conns {
         requires once { opened seat.conn self.old.next ≡ true }
         requires small { length line.now ≤ LAST_LINE_TEXT }
         ensures shown { self.new.shown ≡ self.old.shown }
-        ensures ok { OnOk result (self.new.next ≡ clients_with_change (with_last line.now) seat.conn self.old.next) }
+        ensures ok { OnOk result
+            (self.new.next ≡ clients_with_change (with_last line.now) seat.conn self.old.next) }
         ensures err { OnErr result (self.new.next ≡ self.old.next) }
     {
         let place = seat.place;
@@ -648,8 +626,12 @@ impl Conns {
         line: &[u8],
     ) -> Result<bool, AllocError>
         requires { IsSettled self.old }
-        ensures room { IfOk result (λ put. put ≡ fits (client_at conn self.old.shown) (reply_entry line.now)) }
-        ensures put { IfOk result (λ put. put ≡ true → self.new ≡ on_both (clients_with_change (with_entry (reply_entry line.now)) conn) self.old) }
+        ensures room { IfOk result (λ put.
+            put ≡ fits (client_at conn self.old.shown) (reply_entry line.now)) }
+        ensures put { IfOk result (λ put.
+            put ≡ true
+            → self.new
+            ≡ on_both (clients_with_change (with_entry (reply_entry line.now)) conn) self.old) }
         ensures full { IfOk result (λ put. put ≡ false → self.new ≡ self.old) }
         ensures err { OnErr result (self.new ≡ self.old) }
         ensures told { AreTold self.old.shown self.new.shown dirty_conns.old dirty_conns.new }
@@ -670,8 +652,10 @@ impl Conns {
     /// Puts the last line of a connection that is there and not shut, given without its CR LF, shows it, and notes for whom
     /// it is. Whether it was put: not where it is longer than [`LAST_LINE_TEXT`]. Takes no memory but for the note.
     fn shut_shown(&mut self, dirty_conns: &mut DirtyConns, conn: ConnId, line: &[u8]) -> bool
-        ensures can { result ≡ (opened conn self.old.shown && nat_le (length line.now) LAST_LINE_TEXT) }
-        ensures put { result ≡ true → self.new.shown ≡ clients_with_change (with_last line.now) conn self.old.shown }
+        ensures can { result
+            ≡ (opened conn self.old.shown && nat_le (length line.now) LAST_LINE_TEXT) }
+        ensures put { result ≡ true
+            → self.new.shown ≡ clients_with_change (with_last line.now) conn self.old.shown }
         ensures left { result ≡ false → self.new.shown ≡ self.old.shown }
         ensures told { AreTold self.old.shown self.new.shown dirty_conns.old dirty_conns.new }
     {
@@ -688,8 +672,10 @@ impl Conns {
     /// Notes for whom it is. Whether it was put: not where it is longer than [`LAST_LINE_TEXT`]. Takes no memory but for the
     /// note.
     pub fn shut(&mut self, dirty_conns: &mut DirtyConns, conn: ConnId, line: &[u8]) -> bool
-        ensures can { result ≡ (opened conn self.old.shown && nat_le (length line.now) LAST_LINE_TEXT) }
-        ensures put { result ≡ true → self.new ≡ on_shown (clients_with_change (with_last line.now) conn) self.old }
+        ensures can { result
+            ≡ (opened conn self.old.shown && nat_le (length line.now) LAST_LINE_TEXT) }
+        ensures put { result ≡ true
+            → self.new ≡ on_shown (clients_with_change (with_last line.now) conn) self.old }
         ensures left { result ≡ false → self.new ≡ on_shown (λ clients. clients) self.old }
         ensures told { AreTold self.old.shown self.new.shown dirty_conns.old dirty_conns.new }
     {
@@ -701,8 +687,10 @@ impl Conns {
     /// Gives and removes the first entries that wait, or all where there are fewer. Want of memory
     /// leaves all as it was.
     fn take_shown(&mut self, conn: ConnId, count: usize) -> Result<Vec<Entry>, AllocError>
-        ensures given { IfOk result (λ entries. entries.items ≡ take count (waits_for conn self.old.shown)) }
-        ensures ok { OnOk result (self.new.shown ≡ clients_with_change (without_first count) conn self.old.shown) }
+        ensures given { IfOk result (λ entries.
+            entries.items ≡ take count (waits_for conn self.old.shown)) }
+        ensures ok { OnOk result
+            (self.new.shown ≡ clients_with_change (without_first count) conn self.old.shown) }
         ensures err { OnErr result (self.new ≡ self.old) }
     {
         match place_in(&self.conns, conn) {
@@ -718,8 +706,10 @@ impl Conns {
     /// Gives and removes the first entries that wait, or all where there are fewer, none for a connection that is not there;
     /// and drops all that was staged. Want of memory leaves all as it was.
     pub fn take(&mut self, conn: ConnId, count: usize) -> Result<Vec<Entry>, AllocError>
-        ensures given { IfOk result (λ entries. entries.items ≡ take count (waits_for conn self.old.shown)) }
-        ensures ok { OnOk result (self.new ≡ on_shown (clients_with_change (without_first count) conn) self.old) }
+        ensures given { IfOk result (λ entries.
+            entries.items ≡ take count (waits_for conn self.old.shown)) }
+        ensures ok { OnOk result
+            (self.new ≡ on_shown (clients_with_change (without_first count) conn) self.old) }
         ensures err { OnErr result (self.new ≡ self.old) }
     {
         let entries = self.take_shown(conn, count)?;
@@ -736,9 +726,12 @@ impl Conns {
         count: usize,
         out: &mut Vec<u8>,
     ) -> Result<usize, AllocError>
-        ensures taken { IfOk result (λ taken. taken ≡ length (take count (waits_for conn self.old.shown))) }
-        ensures bytes { OnOk result (out.new.items ≡ out.old.items ++ bytes_of_all (take count (waits_for conn self.old.shown))) }
-        ensures ok { OnOk result (self.new.shown ≡ clients_with_change (without_first count) conn self.old.shown) }
+        ensures taken { IfOk result (λ taken.
+            taken ≡ length (take count (waits_for conn self.old.shown))) }
+        ensures bytes { OnOk result (out.new.items
+            ≡ out.old.items ++ bytes_of_all (take count (waits_for conn self.old.shown))) }
+        ensures ok { OnOk result
+            (self.new.shown ≡ clients_with_change (without_first count) conn self.old.shown) }
         ensures err { OnErr result (self.new ≡ self.old) }
         ensures out { OnErr result (out.new.items ≡ out.old.items) }
     {
@@ -761,9 +754,12 @@ impl Conns {
         count: usize,
         out: &mut Vec<u8>,
     ) -> Result<usize, AllocError>
-        ensures taken { IfOk result (λ taken. taken ≡ length (take count (waits_for conn self.old.shown))) }
-        ensures bytes { OnOk result (out.new.items ≡ out.old.items ++ bytes_of_all (take count (waits_for conn self.old.shown))) }
-        ensures ok { OnOk result (self.new ≡ on_shown (clients_with_change (without_first count) conn) self.old) }
+        ensures taken { IfOk result (λ taken.
+            taken ≡ length (take count (waits_for conn self.old.shown))) }
+        ensures bytes { OnOk result (out.new.items
+            ≡ out.old.items ++ bytes_of_all (take count (waits_for conn self.old.shown))) }
+        ensures ok { OnOk result
+            (self.new ≡ on_shown (clients_with_change (without_first count) conn) self.old) }
         ensures err { OnErr result (self.new ≡ self.old) }
         ensures out { OnErr result (out.new.items ≡ out.old.items) }
     {

@@ -14,10 +14,11 @@ ghost use Rattle.shard_core.specs.ReceiverSteps.{with_noted};
 ghost use Rattle.shard_core.specs.Tallies.{lent_subs, is_placed, Follows, HasPlaced, IsStaged, none_tallied, with_given, with_shut, with_lines, put_if_due as put_matching, walk_matching};
 
 use crate::calls::{Begun, Placed};
-use crate::connections::{Conns, FormLengths, Seat, Standing};
+use crate::connections::Conns;
 use crate::dirty_conns::DirtyConns;
 use crate::openings::Openings;
 use crate::receiver_walk::walk_receivers;
+use crate::standings::{FormLengths, Seat, Standing};
 use client_frames::{ErrText, MessageLines, MessageTails, message_body, message_len};
 use outbox::{Entry, Mode};
 use std::alloc::{AllocError, Global};
@@ -79,7 +80,8 @@ pub fn due_placed(
     headers: bool,
 ) -> Result<Placed, AllocError>
     requires { lines.now ≡ line_forms job.now.message }
-    ensures { IfOk result (λ placed. placed ≡ placed_for shard headers job.now sub.now.key.queue sub.now) }
+    ensures { IfOk result (λ placed.
+        placed ≡ placed_for shard headers job.now sub.now.key.queue sub.now) }
 {
     let line = lines.line(&sub.sid, headers)?;
     let body = message_body(&job.message, headers).clone()?;
@@ -103,7 +105,8 @@ const ENDS: usize = 4;
 /// How many bytes the entry has that the subscription is owed at a connection that takes headers or does not.
 fn due_len(job: &Job, lines: &MessageLines, sub: &Subscription, takes_headers: bool) -> usize
     requires { lines.now ≡ line_forms job.now.message }
-    ensures { (shard : ℕ) (queue : Option (List ℕ)) → result ≡ length (entry_due shard takes_headers job.now queue sub.now).bytes }
+    ensures { (shard : ℕ) (queue : Option (List ℕ))
+        → result ≡ length (entry_due shard takes_headers job.now queue sub.now).bytes }
 {
     let body = message_body(&job.message, takes_headers);
     lines.line_len(&sub.sid, takes_headers) + body.len() + ENDS
@@ -113,8 +116,10 @@ fn due_len(job: &Job, lines: &MessageLines, sub: &Subscription, takes_headers: b
 /// `plain`, and so it has here where the message has no header block.
 fn headed_len(job: &Job, lines: &MessageLines, sub: &Subscription, plain: usize) -> usize
     requires lines { lines.now ≡ line_forms job.now.message }
-    requires plain { (shard : ℕ) (queue : Option (List ℕ)) → plain ≡ length (entry_due shard false job.now queue sub.now).bytes }
-    ensures { (shard : ℕ) (queue : Option (List ℕ)) → result ≡ length (entry_due shard true job.now queue sub.now).bytes }
+    requires plain { (shard : ℕ) (queue : Option (List ℕ))
+        → plain ≡ length (entry_due shard false job.now queue sub.now).bytes }
+    ensures { (shard : ℕ) (queue : Option (List ℕ))
+        → result ≡ length (entry_due shard true job.now queue sub.now).bytes }
 {
     match job.message.headers() {
         None => plain,
@@ -125,7 +130,8 @@ fn headed_len(job: &Job, lines: &MessageLines, sub: &Subscription, plain: usize)
 /// How many bytes the entry has that the subscription is owed, in each form.
 pub fn due_lengths(job: &Job, lines: &MessageLines, sub: &Subscription) -> FormLengths
     requires { lines.now ≡ line_forms job.now.message }
-    ensures { (shard : ℕ) (queue : Option (List ℕ)) (option : Bool) → form_length result option ≡ length (entry_due shard option job.now queue sub.now).bytes }
+    ensures { (shard : ℕ) (queue : Option (List ℕ)) (option : Bool)
+        → form_length result option ≡ length (entry_due shard option job.now queue sub.now).bytes }
 {
     let plain = due_len(job, lines, sub, false);
     let headed = headed_len(job, lines, sub, plain);
@@ -134,7 +140,8 @@ pub fn due_lengths(job: &Job, lines: &MessageLines, sub: &Subscription) -> FormL
 
 /// How many bytes the message has in each form, beside the id of a subscription. Takes no memory.
 pub fn message_lengths(message: &Message) -> FormLengths
-    ensures len { (sid : List ℕ) (option : Bool) → length (due_bytes message.now sid option) ≡ form_length result option + length sid }
+    ensures len { (sid : List ℕ) (option : Bool)
+        → length (due_bytes message.now sid option) ≡ form_length result option + length sid }
     ensures some { (option : Bool) → 1 ≤ form_length result option }
 {
     let plain = message_len(message, false);
@@ -273,7 +280,9 @@ impl DeliveryBuffer {
     ) -> Result<(), AllocError>
         requires lines { lines.now ≡ line_forms job.now.message }
         requires counts { sub.now.delivered + 1 < 2 ^ 64 }
-        ensures { OnOk result (self.new ≡ with_given (placed_for self.old.shard headers job.now sub.now.key.queue sub.now) sub.now self.old) }
+        ensures { OnOk result (self.new
+            ≡ with_given (placed_for self.old.shard headers job.now sub.now.key.queue sub.now)
+            sub.now self.old) }
     {
         if self.copies {
             let placed = due_placed(self.alloc, self.shard, job, lines, sub, headers)?;
@@ -311,7 +320,8 @@ impl DeliveryBuffer {
         requires seat { IsSeatOf conn seat conns.old.next }
         requires once { opened conn conns.old.next ≡ true }
         ensures shown { conns.new.shown ≡ conns.old.shown }
-        ensures conns { OnOk result (conns.new.next ≡ clients_with_change (with_last slow_consumer) conn conns.old.next) }
+        ensures conns { OnOk result
+            (conns.new.next ≡ clients_with_change (with_last slow_consumer) conn conns.old.next) }
         ensures buffer { OnOk result (self.new ≡ with_shut openings.now.subs conn self.old) }
     {
         self.shut.push(conn)?;
@@ -333,10 +343,16 @@ impl DeliveryBuffer {
         requires plain { sub.now.key.queue ≡ None }
         requires counts { sub.now.delivered + 1 < 2 ^ 64 }
         requires seat { IsSeatOf sub.now.conn seat conns.old.next }
-        requires room { IsTrue (fits (client_at sub.now.conn conns.old.next) (entry_due self.old.shard seat.takes_headers job.now None sub.now)) }
+        requires room { IsTrue (fits (client_at sub.now.conn conns.old.next)
+            (entry_due self.old.shard seat.takes_headers job.now None sub.now)) }
         ensures shown { conns.new.shown ≡ conns.old.shown }
-        ensures conns { OnOk result (conns.new.next ≡ clients_with_change (with_entry (entry_due self.old.shard seat.takes_headers job.now None sub.now)) sub.now.conn conns.old.next) }
-        ensures buffer { OnOk result (self.new ≡ with_given (placed_for self.old.shard seat.takes_headers job.now None sub.now) sub.now self.old) }
+        ensures conns { OnOk result (conns.new.next
+            ≡ clients_with_change
+            (with_entry (entry_due self.old.shard seat.takes_headers job.now None sub.now))
+            sub.now.conn conns.old.next) }
+        ensures buffer { OnOk result (self.new
+            ≡ with_given (placed_for self.old.shard seat.takes_headers job.now None sub.now) sub.now
+            self.old) }
     {
         self.note(job, lines, sub, seat.takes_headers)?;
         lines.write_line(&sub.sid, seat.takes_headers, &mut self.line)?;
@@ -361,7 +377,9 @@ impl DeliveryBuffer {
         requires plain { sub.now.key.queue ≡ None }
         requires counts { sub.now.delivered + 1 < 2 ^ 64 }
         ensures shown { conns.new.shown ≡ conns.old.shown }
-        ensures ok { OnOk result (Follows openings.now.subs job.now (λ s w. walk_after_put s job.now w sub.now) conns.old.next self.old conns.new.next self.new) }
+        ensures ok { OnOk result (Follows openings.now.subs job.now
+            (λ s w. walk_after_put s job.now w sub.now) conns.old.next self.old conns.new.next
+            self.new) }
     {
         match conns.standing(sub.conn, due_lengths(job, lines, sub)) {
             Standing::Shut => Ok(()),
@@ -382,7 +400,9 @@ impl DeliveryBuffer {
         requires lines { lines.now ≡ line_forms job.now.message }
         requires counts { sub.now.delivered + 1 < 2 ^ 64 }
         ensures shown { conns.new.shown ≡ conns.old.shown }
-        ensures ok { OnOk result (Follows openings.now.subs job.now (λ s w. put_matching s job.now w sub.now) conns.old.next self.old conns.new.next self.new) }
+        ensures ok { OnOk result (Follows openings.now.subs job.now
+            (λ s w. put_matching s job.now w sub.now) conns.old.next self.old conns.new.next
+            self.new) }
     {
         if !is_due(job, sub) {
             return Ok(());
@@ -402,7 +422,9 @@ impl DeliveryBuffer {
         requires lines { lines.now ≡ line_forms job.now.message }
         requires counts { All (λ sub. sub.delivered + 1 < 2 ^ 64) (lent_subs matching.now) }
         ensures shown { conns.new.shown ≡ conns.old.shown }
-        ensures ok { OnOk result (Follows openings.now.subs job.now (λ s w. walk_matching s job.now (lent_subs matching.now) w) conns.old.next self.old conns.new.next self.new) }
+        ensures ok { OnOk result (Follows openings.now.subs job.now
+            (λ s w. walk_matching s job.now (lent_subs matching.now) w) conns.old.next self.old
+            conns.new.next self.new) }
     {
         for sub in matching {
             self.put_if_due(conns, openings, job, lines, sub)?;
@@ -420,7 +442,9 @@ impl DeliveryBuffer {
     ) -> Result<(), AllocError>
         requires counts { All (λ sub. sub.delivered + 1 < 2 ^ 64) (lent_subs matching.now) }
         ensures shown { conns.new.shown ≡ conns.old.shown }
-        ensures ok { OnOk result (Follows openings.now.subs job.now (λ s w. walk_matching s job.now (lent_subs matching.now) w) conns.old.next self.old conns.new.next self.new) }
+        ensures ok { OnOk result (Follows openings.now.subs job.now
+            (λ s w. walk_matching s job.now (lent_subs matching.now) w) conns.old.next self.old
+            conns.new.next self.new) }
     {
         if !any_due(job, matching) {
             return Ok(());
@@ -439,7 +463,9 @@ impl DeliveryBuffer {
         requires { All (λ sub. sub.delivered + 1 < 2 ^ 64) openings.now.subs }
         ensures shown { conns.new.shown ≡ conns.old.shown }
         ensures rising { OnOk result (AreRising openings.now.subs) }
-        ensures ok { OnOk result (Follows openings.now.subs job.now (λ s w. walk s job.now (filter (is_due job.now) s.subs) w) conns.old.next self.old conns.new.next self.new) }
+        ensures ok { OnOk result (Follows openings.now.subs job.now
+            (λ s w. walk s job.now (filter (is_due job.now) s.subs) w) conns.old.next self.old
+            conns.new.next self.new) }
     {
         let matching = openings.table().matching(job.message.subject())?;
         self.put_due(conns, openings, job, &matching)
@@ -461,7 +487,9 @@ fn walk_any<T: SubTable>(
     requires { All (λ sub. sub.delivered + 1 < 2 ^ 64) openings.now.subs }
     ensures shown { conns.new.shown ≡ conns.old.shown }
     ensures rising { OnOk result (AreRising openings.now.subs) }
-    ensures ok { OnOk result (Follows openings.now.subs job.now (λ s w. walk s job.now (filter (is_due job.now) s.subs) w) conns.old.next buffer.old conns.new.next buffer.new) }
+    ensures ok { OnOk result (Follows openings.now.subs job.now
+        (λ s w. walk s job.now (filter (is_due job.now) s.subs) w) conns.old.next buffer.old
+        conns.new.next buffer.new) }
 {
     if buffer.copies || job.message.whole().len() > SHORT_BODY {
         return buffer.walk(conns, openings, job);
@@ -487,7 +515,12 @@ pub fn place_all<T: SubTable>(
     requires fresh { buffer.old ≡ none_tallied buffer.old.shard buffer.old.copies }
     requires settled { IsSettled conns.old }
     requires counts { All (λ sub. sub.delivered + 1 < 2 ^ 64) openings.old.subs }
-    ensures ok { IfOk result (λ begun. (s : State) → s.shard ≡ buffer.old.shard → s.subs ≡ openings.old.subs → s.clients ≡ conns.old.shown → HasPlaced buffer.old.copies s job.now openings.old begun conns.new openings.new) }
+    ensures ok { IfOk result (λ begun.
+        (s : State)
+        → s.shard ≡ buffer.old.shard
+        → s.subs ≡ openings.old.subs
+        → s.clients ≡ conns.old.shown
+        → HasPlaced buffer.old.copies s job.now openings.old begun conns.new openings.new) }
     ensures err { OnErr result ((conns.new ≡ conns.old) × (openings.new ≡ openings.old)) }
     ensures told { AreTold conns.old.shown conns.new.shown dirty_conns.old dirty_conns.new }
 {
@@ -521,8 +554,14 @@ fn stage<T: SubTable>(
     requires settled { IsSettled conns.old }
     requires counts { All (λ sub. sub.delivered + 1 < 2 ^ 64) openings.now.subs }
     ensures shown { conns.new.shown ≡ conns.old.shown }
-    ensures ok { IfOk result (λ ended. (s : State) → s.shard ≡ buffer.old.shard → s.subs ≡ openings.now.subs → s.clients ≡ conns.old.shown → IsStaged buffer.old.copies s job.now conns.new.next buffer.new) }
-    ensures ended { IfOk result (λ ended. ended.items ≡ ended_ids buffer.old.shard buffer.new.ended) }
+    ensures ok { IfOk result (λ ended.
+        (s : State)
+        → s.shard ≡ buffer.old.shard
+        → s.subs ≡ openings.now.subs
+        → s.clients ≡ conns.old.shown
+        → IsStaged buffer.old.copies s job.now conns.new.next buffer.new) }
+    ensures ended { IfOk result (λ ended.
+        ended.items ≡ ended_ids buffer.old.shard buffer.new.ended) }
     ensures given_apart { IfOk result (λ ended. AreApart buffer.new.given) }
     ensures ended_apart { IfOk result (λ ended. AreApart buffer.new.ended) }
 {

@@ -23,7 +23,9 @@ fn is_last(conns: &Vec<ConnId>, conn: ConnId) -> bool
 /// of memory, and not where there are as many.
 fn push_within(conns: &mut Vec<ConnId>, conn: ConnId, count: usize) -> bool
     ensures put { result ≡ true → list_any (nat_eq conn) conns.new.items ≡ true }
-    ensures kept { (other : ℕ) → list_any (nat_eq other) conns.old.items ≡ true → list_any (nat_eq other) conns.new.items ≡ true }
+    ensures kept { (other : ℕ)
+        → list_any (nat_eq other) conns.old.items ≡ true
+        → list_any (nat_eq other) conns.new.items ≡ true }
 {
     if is_last(conns, conn) {
         return true;
@@ -105,7 +107,9 @@ impl DirtyConns {
     /// Something was put for a connection, which is one of so many, and of whose room half may be used.
     pub(crate) fn note(&mut self, conn: ConnId, count: usize, is_half_full: bool)
         ensures dirty { is_dirty conn self.new ≡ true }
-        ensures kept { (other : ℕ) → is_dirty other self.old ≡ true → is_dirty other self.new ≡ true }
+        ensures kept { (other : ℕ)
+            → is_dirty other self.old ≡ true
+            → is_dirty other self.new ≡ true }
         ensures urgent { self.new.urgent ≡ (self.old.urgent || is_half_full) }
     {
         self.is_urgent |= is_half_full;

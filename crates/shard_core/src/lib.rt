@@ -10,7 +10,7 @@
 //! ```
 //!
 //! In reading order: `shard` has the calls, `calls` their answers, and `shard/refusals` why they are refused; `connections` keeps the
-//! outboxes, `openings` the open subscriptions; `delivery_buffer` is what Begin places, by
+//! outboxes (`standings`: whether one has room), `openings` the open subscriptions; `delivery_buffer` is what Begin places, by
 //! `receiver_walk` where who receives the subject is noted (`receivers`); `queue_claim` with `members` is the choice of one member.
 //!
 //! A run of jobs of one subject goes to the same receivers, so [`Shard::deliver_run`] (`shard/runs`) delivers it at once, by
@@ -34,6 +34,7 @@ mod receivers;
 mod run_delivery;
 mod run_laws;
 mod shard;
+mod standings;
 
 pub use calls::{BeginFault, Begun, Candidate, Closed, Placed, Subscribed};
 pub use connections::Conns;

@@ -35,7 +35,8 @@ pub struct Member {
 
 /// Puts the members among those that match behind what is there.
 fn push_members(matching: &[&Subscription], members: &mut Vec<Member>) -> Result<(), AllocError>
-    ensures { OnOk result (members.new.items ≡ members.old.items ++ members_of (lent_subs matching.now)) }
+    ensures { OnOk result
+        (members.new.items ≡ members.old.items ++ members_of (lent_subs matching.now)) }
 {
     for sub in matching {
         if let Some(name) = &sub.key.queue {
@@ -80,7 +81,9 @@ impl Members {
 
     /// The members that match the subject, where they are noted.
     pub fn of(&self, subject: &Subject) -> Option<&[Member]>
-        ensures { (subs : List Opened) → AreNoted subs self.now → IfSome result (λ members. members.now ≡ members_of (filter (gets subject.now) subs)) }
+        ensures { (subs : List Opened)
+            → AreNoted subs self.now
+            → IfSome result (λ members. members.now ≡ members_of (filter (gets subject.now) subs)) }
     {
         if !self.noted || self.subject.as_slice() != subject.bytes() {
             return None;
@@ -90,7 +93,9 @@ impl Members {
 
     /// Notes the members among those that match the subject. Want of memory leaves none noted.
     pub fn note(&mut self, subject: &Subject, matching: &[&Subscription]) -> Result<(), AllocError>
-        ensures { (subs : List Opened) → lent_subs matching.now ≡ filter (gets subject.now) subs → AreNoted subs self.new }
+        ensures { (subs : List Opened)
+            → lent_subs matching.now ≡ filter (gets subject.now) subs
+            → AreNoted subs self.new }
     {
         self.noted = false;
         self.subject.clear();

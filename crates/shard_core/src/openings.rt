@@ -23,7 +23,8 @@ use subj::{ConnId, Delta, QueueName, Subject};
 /// Takes the memory of so many closing deltas, of an opening one, and of the closing one that is to follow it.
 fn reserve_for(deltas: &mut Vec<Delta>, closings: usize) -> Result<(), AllocError>
     ensures items { deltas.new.items ≡ deltas.old.items }
-    ensures places { OnOk result (length deltas.old.items + closings + 2 ≤ vec_capacity deltas.new) }
+    ensures places { OnOk result
+        (length deltas.old.items + closings + 2 ≤ vec_capacity deltas.new) }
     ensures kept { vec_capacity deltas.old ≤ vec_capacity deltas.new }
 {
     let Some(places) = closings.checked_add(2) else {
@@ -56,7 +57,8 @@ impl<T: SubTable> Model for Openings<T> {
 
     ghost view = { λ o. record { subs = T.contents o.table; deltas = o.deltas.items } };
 
-    ghost invariant = { λ o. IsOpened (T.contents o.table) o.deltas.items (vec_capacity o.deltas) o.notes };
+    ghost invariant = { λ o.
+        IsOpened (T.contents o.table) o.deltas.items (vec_capacity o.deltas) o.notes };
 }
 
 impl<T: SubTable> Openings<T> {
@@ -123,7 +125,8 @@ impl<T: SubTable> Openings<T> {
     /// Counts so many messages more that the one of this serial got, where it is open. Takes no memory.
     pub fn count_many(&mut self, serial: u64, count: u64)
         requires { CanCountMore count serial self.old.subs }
-        ensures { self.new ≡ record self.old { subs = map (sub_with_more serial count) self.old.subs } }
+        ensures { self.new
+            ≡ record self.old { subs = map (sub_with_more serial count) self.old.subs } }
     {
         self.table.count_many(serial, count);
     }
@@ -132,7 +135,8 @@ impl<T: SubTable> Openings<T> {
     pub fn count_run(&mut self, given: &[u64], count: u64)
         requires apart { AreApart given.now }
         requires room { Each (λ serial. CanCountMore count serial self.old.subs) given.now }
-        ensures { self.new ≡ record self.old { subs = subs_by_serials count given.now self.old.subs } }
+        ensures { self.new
+            ≡ record self.old { subs = subs_by_serials count given.now self.old.subs } }
     {
         for serial in given {
             self.count_many(*serial, count);
@@ -194,7 +198,8 @@ impl<T: SubTable> Openings<T> {
 
     /// All who receive the subject, in order of opening, where they are noted.
     pub fn receivers(&self, subject: &Subject) -> Option<&[Receiver]>
-        ensures all { IfSome result (λ receivers. receivers.now ≡ receivers_of subject.now (filter (gets subject.now) self.now.subs)) }
+        ensures all { IfSome result (λ receivers.
+            receivers.now ≡ receivers_of subject.now (filter (gets subject.now) self.now.subs)) }
         ensures rising { AreRising self.now.subs }
     {
         self.notes.receivers.of(subject)
@@ -220,7 +225,9 @@ impl<T: SubTable> Openings<T> {
         subject: &Subject,
         name: &QueueName,
     ) -> Result<Vec<&Subscription>, AllocError>
-        ensures all { IfOk result (λ subs. filter (is_in_group_of name.now) (lent_subs subs.items) ≡ filter (is_in_group_of name.now) (filter (gets subject.now) self.now.subs)) }
+        ensures all { IfOk result (λ subs.
+            filter (is_in_group_of name.now) (lent_subs subs.items)
+            ≡ filter (is_in_group_of name.now) (filter (gets subject.now) self.now.subs)) }
         ensures rising { AreRising self.now.subs }
     {
         match self.notes.members.of(subject) {
@@ -234,7 +241,8 @@ impl<T: SubTable> Openings<T> {
 
     /// The open ones among the members of this mark, in order.
     fn subs_of_mark(&self, members: &[Member], mark: u64) -> Result<Vec<&Subscription>, AllocError>
-        ensures { IfOk result (λ subs. lent_subs subs.items ≡ found_of self.now.subs mark members.now) }
+        ensures { IfOk result (λ subs.
+            lent_subs subs.items ≡ found_of self.now.subs mark members.now) }
     {
         let mut subs = Vec::new(self.alloc);
         for member in members {

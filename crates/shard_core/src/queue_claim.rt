@@ -14,9 +14,10 @@ ghost use Rattle.shard_core.specs.Shards.{client_at, clients_with_change, fits};
 ghost use Rattle.shard_core.specs.Tallies.{lent_subs};
 
 use crate::calls::{Candidate, Placed};
-use crate::connections::{Conns, Seat};
+use crate::connections::Conns;
 use crate::delivery_buffer::{due_lengths, due_mode, due_placed, may_get};
 use crate::openings::Openings;
+use crate::standings::Seat;
 use client_frames::{MessageLines, message_body};
 use std::alloc::{AllocError, Global};
 use sub_table::{SubTable, Subscription};
@@ -45,7 +46,9 @@ fn is_named(name: &QueueName, sub: &Subscription) -> bool
 /// Whether the subscription has room for the entry that it would be owed.
 fn has_room(claim: &QueueClaim, lines: &MessageLines, conns: &Conns, sub: &Subscription) -> bool
     requires { lines.now ≡ line_forms claim.now.job.now.message }
-    ensures { result ≡ fits (client_at sub.now.conn conns.now.next) (owed_entry claim.now.shard conns.now.next claim.now.job.now sub.now.key.queue sub.now) }
+    ensures { result
+        ≡ fits (client_at sub.now.conn conns.now.next)
+        (owed_entry claim.now.shard conns.now.next claim.now.job.now sub.now.key.queue sub.now) }
 {
     conns.has_room(sub.conn, due_lengths(claim.job, lines, sub))
 }
@@ -53,7 +56,8 @@ fn has_room(claim: &QueueClaim, lines: &MessageLines, conns: &Conns, sub: &Subsc
 /// Whether it is a candidate, of those that match.
 fn is_candidate(claim: &QueueClaim, lines: &MessageLines, conns: &Conns, sub: &Subscription) -> bool
     requires { lines.now ≡ line_forms claim.now.job.now.message }
-    ensures { result ≡ is_member claim.now.shard conns.now.next claim.now.job.now claim.now.name.now sub.now }
+    ensures { result
+        ≡ is_member claim.now.shard conns.now.next claim.now.job.now claim.now.name.now sub.now }
 {
     is_named(claim.name, sub) && may_get(claim.job, sub) && has_room(claim, lines, conns, sub)
 }
@@ -81,7 +85,10 @@ fn copy_for(
     headers: bool,
 ) -> Result<Option<Placed>, AllocError>
     requires { lines.now ≡ line_forms claim.now.job.now.message }
-    ensures { IfOk result (λ placed. placed ≡ copy_of claim.now.copies (placed_for claim.now.shard headers claim.now.job.now sub.now.key.queue sub.now)) }
+    ensures { IfOk result (λ placed.
+        placed
+        ≡ copy_of claim.now.copies
+        (placed_for claim.now.shard headers claim.now.job.now sub.now.key.queue sub.now)) }
 {
     if !claim.copies {
         return Ok(None);
@@ -98,7 +105,10 @@ fn open_candidates<'a, T: SubTable>(
     openings: &'a Openings<T>,
 ) -> Result<Vec<&'a Subscription>, AllocError>
     requires { lines.now ≡ line_forms claim.now.job.now.message }
-    ensures all { IfOk result (λ subs. lent_subs subs.items ≡ filter (is_member claim.now.shard conns.now.next claim.now.job.now claim.now.name.now) (filter (gets claim.now.job.now.message.subject) openings.now.subs)) }
+    ensures all { IfOk result (λ subs.
+        lent_subs subs.items
+        ≡ filter (is_member claim.now.shard conns.now.next claim.now.job.now claim.now.name.now)
+        (filter (gets claim.now.job.now.message.subject) openings.now.subs)) }
     ensures rising { AreRising openings.now.subs }
 {
     let mut subs = openings.members(claim.job.message.subject(), claim.name)?;
@@ -116,9 +126,15 @@ fn stage_due(
 ) -> Result<(), AllocError>
     requires lines { lines.now ≡ line_forms claim.now.job.now.message }
     requires seat { IsSeatOf sub.now.conn seat conns.old.next }
-    requires room { IsTrue (fits (client_at sub.now.conn conns.old.next) (entry_due claim.now.shard seat.takes_headers claim.now.job.now sub.now.key.queue sub.now)) }
+    requires room { IsTrue (fits (client_at sub.now.conn conns.old.next)
+        (entry_due claim.now.shard seat.takes_headers claim.now.job.now sub.now.key.queue
+        sub.now)) }
     ensures shown { conns.new.shown ≡ conns.old.shown }
-    ensures staged { OnOk result (conns.new.next ≡ clients_with_change (with_entry (entry_due claim.now.shard seat.takes_headers claim.now.job.now sub.now.key.queue sub.now)) sub.now.conn conns.old.next) }
+    ensures staged { OnOk result (conns.new.next
+        ≡ clients_with_change
+        (with_entry
+        (entry_due claim.now.shard seat.takes_headers claim.now.job.now sub.now.key.queue sub.now))
+        sub.now.conn conns.old.next) }
     ensures err { OnErr result (conns.new.next ≡ conns.old.next) }
 {
     let line = lines.line(&sub.sid, seat.takes_headers)?;
@@ -139,10 +155,18 @@ fn stage_chosen(
     sub: &Subscription,
 ) -> Result<Candidate, AllocError>
     requires lines { lines.now ≡ line_forms claim.now.job.now.message }
-    requires room { IsTrue (fits (client_at sub.now.conn conns.old.next) (owed_entry claim.now.shard conns.old.next claim.now.job.now sub.now.key.queue sub.now)) }
+    requires room { IsTrue (fits (client_at sub.now.conn conns.old.next)
+        (owed_entry claim.now.shard conns.old.next claim.now.job.now sub.now.key.queue sub.now)) }
     ensures shown { conns.new.shown ≡ conns.old.shown }
-    ensures told { IfOk result (λ candidate. candidate ≡ candidate_told claim.now.copies claim.now.shard conns.old.next claim.now.job.now sub.now) }
-    ensures staged { OnOk result (conns.new.next ≡ clients_with_change (with_entry (owed_entry claim.now.shard conns.old.next claim.now.job.now sub.now.key.queue sub.now)) sub.now.conn conns.old.next) }
+    ensures told { IfOk result (λ candidate.
+        candidate
+        ≡ candidate_told claim.now.copies claim.now.shard conns.old.next claim.now.job.now
+        sub.now) }
+    ensures staged { OnOk result (conns.new.next
+        ≡ clients_with_change
+        (with_entry
+        (owed_entry claim.now.shard conns.old.next claim.now.job.now sub.now.key.queue sub.now))
+        sub.now.conn conns.old.next) }
     ensures err { OnErr result (conns.new.next ≡ conns.old.next) }
 {
     let Some(seat) = conns.seat(sub.conn) else {
@@ -168,7 +192,9 @@ fn choose_with<T: SubTable>(
     requires lines { lines.now ≡ line_forms claim.now.job.now.message }
     requires settled { IsSettled conns.old }
     ensures shown { conns.new.shown ≡ conns.old.shown }
-    ensures ok { IfOk result (λ candidate. HasChosen claim.now.copies (shard_with claim.now.shard conns.old.shown openings.now.subs) claim.now.job.now claim.now.name.now candidate conns.new.next) }
+    ensures ok { IfOk result (λ candidate.
+        HasChosen claim.now.copies (shard_with claim.now.shard conns.old.shown openings.now.subs)
+        claim.now.job.now claim.now.name.now candidate conns.new.next) }
     ensures err { OnErr result (conns.new.next ≡ conns.old.next) }
 {
     let subs = open_candidates(claim, lines, conns, openings)?;
@@ -189,7 +215,9 @@ pub fn choose<T: SubTable>(
 ) -> Result<Option<Candidate>, AllocError>
     requires { IsSettled conns.old }
     ensures shown { conns.new.shown ≡ conns.old.shown }
-    ensures ok { IfOk result (λ candidate. HasChosen claim.now.copies (shard_with claim.now.shard conns.old.shown openings.now.subs) claim.now.job.now claim.now.name.now candidate conns.new.next) }
+    ensures ok { IfOk result (λ candidate.
+        HasChosen claim.now.copies (shard_with claim.now.shard conns.old.shown openings.now.subs)
+        claim.now.job.now claim.now.name.now candidate conns.new.next) }
     ensures err { OnErr result (conns.new.next ≡ conns.old.next) }
 {
     let lines = MessageLines::new(claim.alloc, &claim.job.message)?;

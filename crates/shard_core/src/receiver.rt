@@ -30,7 +30,13 @@ impl Model for Receiver {
 
     ghost Value = { Received };
 
-    ghost view = { λ r. record { serial = r.serial; conn = r.conn; is_plain = r.is_plain; is_limited = r.is_limited; head = r.head.items } };
+    ghost view = { λ r. record {
+      serial = r.serial;
+      conn = r.conn;
+      is_plain = r.is_plain;
+      is_limited = r.is_limited;
+      head = r.head.items;
+    } };
 
     ghost invariant = { λ r. (1 ≤ length r.head.items) × (length r.head.items ≤ MAX_HEAD) };
 }

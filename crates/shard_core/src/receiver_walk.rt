@@ -13,10 +13,11 @@ ghost use Rattle.shard_core.specs.ReceiverSteps.{IsFoundAs, ends_at, entry_for, 
 ghost use Rattle.shard_core.specs.Shards.{client_at, clients_with_change, fits};
 ghost use Rattle.shard_core.specs.Tallies.{Follows, put_if_due as put_matching, walk_matching};
 
-use crate::connections::{Conns, FormLengths, Seat, Standing};
+use crate::connections::Conns;
 use crate::delivery_buffer::{DeliveryBuffer, is_last, may_get_at};
 use crate::openings::Openings;
 use crate::receiver::Receiver;
+use crate::standings::{FormLengths, Seat, Standing};
 use client_frames::MessageTails;
 use outbox::Mode;
 use std::alloc::AllocError;
@@ -44,14 +45,18 @@ pub fn any_due(job: &Job, receivers: &[Receiver]) -> bool
 
 /// How many bytes the message has for the receiver, at a connection that takes headers or does not.
 fn len_for(tails: &MessageTails, receiver: &Receiver, takes_headers: bool) -> usize
-    ensures { result ≡ length (head_for tails.now receiver.now.head takes_headers ++ tail_for tails.now takes_headers) }
+    ensures { result
+        ≡ length
+        (head_for tails.now receiver.now.head takes_headers ++ tail_for tails.now takes_headers) }
 {
     tails.head(receiver.head(), takes_headers).len() + tails.tail(takes_headers).len()
 }
 
 /// How many bytes the message has for the receiver, in each form.
 fn lengths_for(tails: &MessageTails, receiver: &Receiver) -> FormLengths
-    ensures { (option : Bool) → form_length result option ≡ length (head_for tails.now receiver.now.head option ++ tail_for tails.now option) }
+    ensures { (option : Bool)
+        → form_length result option
+        ≡ length (head_for tails.now receiver.now.head option ++ tail_for tails.now option) }
 {
     let plain = len_for(tails, receiver, false);
     let headed = len_for(tails, receiver, true);
@@ -82,9 +87,13 @@ fn stage_for(
     seat: Seat,
 ) -> Result<(), AllocError>
     requires seat { IsSeatOf receiver.now.conn seat conns.old.next }
-    requires room { IsTrue (fits (client_at receiver.now.conn conns.old.next) (entry_for shard job.now.id tails.now receiver.now seat.takes_headers)) }
+    requires room { IsTrue (fits (client_at receiver.now.conn conns.old.next)
+        (entry_for shard job.now.id tails.now receiver.now seat.takes_headers)) }
     ensures shown { conns.new.shown ≡ conns.old.shown }
-    ensures ok { OnOk result (conns.new.next ≡ clients_with_change (with_entry (entry_for shard job.now.id tails.now receiver.now seat.takes_headers)) receiver.now.conn conns.old.next) }
+    ensures ok { OnOk result (conns.new.next
+        ≡ clients_with_change
+        (with_entry (entry_for shard job.now.id tails.now receiver.now seat.takes_headers))
+        receiver.now.conn conns.old.next) }
 {
     let head = tails.head(receiver.head(), seat.takes_headers);
     let tail = tails.tail(seat.takes_headers);
@@ -111,10 +120,16 @@ fn give<T: SubTable>(
 ) -> Result<(), AllocError>
     requires counts { All (λ sub. sub.delivered + 1 < 2 ^ 64) openings.now.subs }
     requires seat { IsSeatOf receiver.now.conn seat conns.old.next }
-    requires room { IsTrue (fits (client_at receiver.now.conn conns.old.next) (entry_for buffer.old.shard job.now.id tails.now receiver.now seat.takes_headers)) }
+    requires room { IsTrue (fits (client_at receiver.now.conn conns.old.next)
+        (entry_for buffer.old.shard job.now.id tails.now receiver.now seat.takes_headers)) }
     ensures shown { conns.new.shown ≡ conns.old.shown }
-    ensures conns { OnOk result (conns.new.next ≡ clients_with_change (with_entry (entry_for buffer.old.shard job.now.id tails.now receiver.now seat.takes_headers)) receiver.now.conn conns.old.next) }
-    ensures buffer { OnOk result (buffer.new ≡ with_noted receiver.now.serial (ends_at openings.now.subs receiver.now) buffer.old) }
+    ensures conns { OnOk result (conns.new.next
+        ≡ clients_with_change
+        (with_entry
+        (entry_for buffer.old.shard job.now.id tails.now receiver.now seat.takes_headers))
+        receiver.now.conn conns.old.next) }
+    ensures buffer { OnOk result (buffer.new
+        ≡ with_noted receiver.now.serial (ends_at openings.now.subs receiver.now) buffer.old) }
 {
     let shard = buffer.shard();
     buffer.note_given(receiver.serial(), ends(openings, receiver))?;
@@ -135,7 +150,10 @@ fn put<T: SubTable>(
     requires copies { buffer.old.copies ≡ false }
     ensures shown { conns.new.shown ≡ conns.old.shown }
     ensures copies { OnOk result (buffer.new.copies ≡ false) }
-    ensures ok { OnOk result ((sub : Opened) → IsFoundAs openings.now.subs job.now.message.subject receiver.now sub → Follows openings.now.subs job.now (λ s w. walk_after_put s job.now w sub) conns.old.next buffer.old conns.new.next buffer.new) }
+    ensures ok { OnOk result ((sub : Opened)
+        → IsFoundAs openings.now.subs job.now.message.subject receiver.now sub
+        → Follows openings.now.subs job.now (λ s w. walk_after_put s job.now w sub) conns.old.next
+        buffer.old conns.new.next buffer.new) }
 {
     let conn = receiver.conn();
     match conns.standing(conn, lengths_for(tails, receiver)) {
@@ -159,7 +177,10 @@ fn put_if_due<T: SubTable>(
     requires copies { buffer.old.copies ≡ false }
     ensures shown { conns.new.shown ≡ conns.old.shown }
     ensures copies { OnOk result (buffer.new.copies ≡ false) }
-    ensures ok { OnOk result ((sub : Opened) → IsFoundAs openings.now.subs job.now.message.subject receiver.now sub → Follows openings.now.subs job.now (λ s w. put_matching s job.now w sub) conns.old.next buffer.old conns.new.next buffer.new) }
+    ensures ok { OnOk result ((sub : Opened)
+        → IsFoundAs openings.now.subs job.now.message.subject receiver.now sub
+        → Follows openings.now.subs job.now (λ s w. put_matching s job.now w sub) conns.old.next
+        buffer.old conns.new.next buffer.new) }
 {
     if !is_due(job, receiver) {
         return Ok(());
@@ -180,9 +201,13 @@ fn put_each<T: SubTable>(
     requires counts { All (λ sub. sub.delivered + 1 < 2 ^ 64) openings.now.subs }
     requires copies { buffer.old.copies ≡ false }
     requires rising { AreRising openings.now.subs }
-    requires receivers { receivers.now ≡ receivers_of job.now.message.subject (filter (gets job.now.message.subject) openings.now.subs) }
+    requires receivers { receivers.now
+        ≡ receivers_of job.now.message.subject
+        (filter (gets job.now.message.subject) openings.now.subs) }
     ensures shown { conns.new.shown ≡ conns.old.shown }
-    ensures ok { OnOk result (Follows openings.now.subs job.now (λ s w. walk_matching s job.now (filter (gets job.now.message.subject) openings.now.subs) w) conns.old.next buffer.old conns.new.next buffer.new) }
+    ensures ok { OnOk result (Follows openings.now.subs job.now
+        (λ s w. walk_matching s job.now (filter (gets job.now.message.subject) openings.now.subs) w)
+        conns.old.next buffer.old conns.new.next buffer.new) }
 {
     for receiver in receivers {
         put_if_due(buffer, conns, openings, job, tails, receiver)?;
@@ -203,9 +228,13 @@ pub fn walk_receivers<T: SubTable>(
     requires counts { All (λ sub. sub.delivered + 1 < 2 ^ 64) openings.now.subs }
     requires copies { buffer.old.copies ≡ false }
     requires rising { AreRising openings.now.subs }
-    requires receivers { receivers.now ≡ receivers_of job.now.message.subject (filter (gets job.now.message.subject) openings.now.subs) }
+    requires receivers { receivers.now
+        ≡ receivers_of job.now.message.subject
+        (filter (gets job.now.message.subject) openings.now.subs) }
     ensures shown { conns.new.shown ≡ conns.old.shown }
-    ensures ok { OnOk result (Follows openings.now.subs job.now (λ s w. walk s job.now (filter (is_owed job.now) s.subs) w) conns.old.next buffer.old conns.new.next buffer.new) }
+    ensures ok { OnOk result (Follows openings.now.subs job.now
+        (λ s w. walk s job.now (filter (is_owed job.now) s.subs) w) conns.old.next buffer.old
+        conns.new.next buffer.new) }
 {
     if !any_due(job, receivers) {
         return Ok(());

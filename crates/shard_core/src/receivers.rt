@@ -23,7 +23,8 @@ fn push_receivers(
     matching: &[&Subscription],
     receivers: &mut Vec<Receiver>,
 ) -> Result<(), AllocError>
-    ensures { OnOk result (receivers.new.items ≡ receivers.old.items ++ receivers_of subject.now (lent_subs matching.now)) }
+    ensures { OnOk result (receivers.new.items
+        ≡ receivers.old.items ++ receivers_of subject.now (lent_subs matching.now)) }
 {
     for sub in matching {
         receivers.push(Receiver::new(alloc, subject, sub)?)?;
@@ -65,7 +66,10 @@ impl Receivers {
 
     /// Those of the subject, where they are noted.
     pub fn of(&self, subject: &Subject) -> Option<&[Receiver]>
-        ensures { (subs : List Opened) → AreReceivers subs self.now → IfSome result (λ receivers. receivers.now ≡ receivers_of subject.now (filter (gets subject.now) subs)) }
+        ensures { (subs : List Opened)
+            → AreReceivers subs self.now
+            → IfSome result (λ receivers.
+            receivers.now ≡ receivers_of subject.now (filter (gets subject.now) subs)) }
     {
         if !self.noted || self.subject.as_slice() != subject.bytes() {
             return None;
@@ -98,7 +102,9 @@ impl Receivers {
         subject: &Subject,
         matching: &[&Subscription],
     ) -> Result<(), AllocError>
-        ensures { (subs : List Opened) → lent_subs matching.now ≡ filter (gets subject.now) subs → AreReceivers subs self.new }
+        ensures { (subs : List Opened)
+            → lent_subs matching.now ≡ filter (gets subject.now) subs
+            → AreReceivers subs self.new }
     {
         self.noted = false;
         if matching.len() > MOST_RECEIVERS {

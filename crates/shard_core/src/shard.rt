@@ -74,8 +74,13 @@ fn put_answer(
     frame: &ReplyFrame,
 ) -> Result<bool, AllocError>
     requires { IsSettled conns.old }
-    ensures room { IfOk result (λ put. put ≡ fits (client_at conn conns.old.shown) (reply_entry (line_of_reply frame.now))) }
-    ensures put { IfOk result (λ put. put ≡ true → conns.new ≡ on_both (clients_with_change (with_entry (reply_entry (line_of_reply frame.now))) conn) conns.old) }
+    ensures room { IfOk result (λ put.
+        put ≡ fits (client_at conn conns.old.shown) (reply_entry (line_of_reply frame.now))) }
+    ensures put { IfOk result (λ put.
+        put ≡ true
+        → conns.new
+        ≡ on_both (clients_with_change (with_entry (reply_entry (line_of_reply frame.now))) conn)
+        conns.old) }
     ensures full { IfOk result (λ put. put ≡ false → conns.new ≡ conns.old) }
     ensures err { OnErr result (conns.new ≡ conns.old) }
     ensures told { AreTold conns.old.shown conns.new.shown dirty_conns.old dirty_conns.new }
@@ -98,9 +103,12 @@ fn shut_with<T: SubTable>(
     requires held_at_rest { IsSettled conns.old }
     requires once { opened conn conns.old.shown ≡ true }
     requires small { length line.now ≤ LAST_LINE_TEXT }
-    ensures ended { IfOk result (λ ended. ended.items ≡ ended_ids shard (left_of conn [] openings.old.subs)) }
-    ensures conns { OnOk result (conns.new ≡ on_both (clients_with_change (with_last line.now) conn) conns.old) }
-    ensures openings { OnOk result (openings.new ≡ with_closings (left_of conn [] openings.old.subs) openings.old) }
+    ensures ended { IfOk result (λ ended.
+        ended.items ≡ ended_ids shard (left_of conn [] openings.old.subs)) }
+    ensures conns { OnOk result
+        (conns.new ≡ on_both (clients_with_change (with_last line.now) conn) conns.old) }
+    ensures openings { OnOk result
+        (openings.new ≡ with_closings (left_of conn [] openings.old.subs) openings.old) }
     ensures err { OnErr result ((conns.new ≡ conns.old) × (openings.new ≡ openings.old)) }
     ensures told { AreTold conns.old.shown conns.new.shown dirty_conns.old dirty_conns.new }
 {
@@ -114,7 +122,10 @@ fn shut_with<T: SubTable>(
 /// Whether one more subscription to the key is beyond the shard's share of the limits.
 fn is_full<T: SubTable>(table: &T, shards: u64, key: &Key) -> bool
     requires { 1 ≤ shards }
-    ensures { result ≡ (nat_le (SUBSCRIPTIONS / shards) (length (T.contents table.now)) || not (nat_le (total_cost (T.contents table.now) + cost_of key.now) (SUBSCRIPTION_BYTES / shards))) }
+    ensures { result
+        ≡ (nat_le (SUBSCRIPTIONS / shards) (length (T.contents table.now))
+        || not (nat_le (total_cost (T.contents table.now) + cost_of key.now)
+        (SUBSCRIPTION_BYTES / shards))) }
 {
     table.len() as u64 >= SUBSCRIPTIONS / shards
         || !table.fits(key.cost(), SUBSCRIPTION_BYTES / shards)
@@ -281,7 +292,9 @@ impl<T: SubTable> Shard<T> {
     /// A new connection. Shard s of K numbers its connections s, s + K, s + 2K, ..; refused with
     /// [`ShardFault::Spent`] where the number would be above [`MAX_COUNTER`].
     pub fn attach(&mut self) -> Result<ConnId, Failure<ShardFault>>
-        ensures { IsAnswered (shard_refusal self.old.state Attach) (λ conn. DoesStep self.old Attach (Attached conn) self.new) (IsLeft self.old self.new) result }
+        ensures { IsAnswered (shard_refusal self.old.state Attach)
+            (λ conn. DoesStep self.old Attach (Attached conn) self.new) (IsLeft self.old self.new)
+            result }
     {
         drop_candidate(&mut self.conns, &mut self.chosen);
         if self.next_conn > MAX_COUNTER {
@@ -304,7 +317,9 @@ impl<T: SubTable> Shard<T> {
         key: Key,
         sid: Sid,
     ) -> Result<Subscribed, Failure<ShardFault>>
-        ensures { IsAnswered (shard_refusal self.old.state (Subscribe conn key sid)) (λ done. DoesStep self.old (Subscribe conn key sid) (answer_of done) self.new) (IsLeft self.old self.new) result }
+        ensures { IsAnswered (shard_refusal self.old.state (Subscribe conn key sid))
+            (λ done. DoesStep self.old (Subscribe conn key sid) (answer_of done) self.new)
+            (IsLeft self.old self.new) result }
     {
         drop_candidate(&mut self.conns, &mut self.chosen);
         let serial = match self.serial_for(conn, &key, &sid) {
@@ -330,7 +345,8 @@ impl<T: SubTable> Shard<T> {
     /// Takes no subscription any more; what is open stays. Refused with [`ShardFault::Draining`] where the shard
     /// drains already. Takes no memory. (Profile.)
     pub fn drain(&mut self) -> Result<(), ShardFault>
-        ensures { IsDecided (shard_refusal self.old.state Drain) (λ _. DoesStep self.old Drain Drains self.new) (IsLeft self.old self.new) result }
+        ensures { IsDecided (shard_refusal self.old.state Drain)
+            (λ _. DoesStep self.old Drain Drains self.new) (IsLeft self.old self.new) result }
     {
         drop_candidate(&mut self.conns, &mut self.chosen);
         if self.draining {
@@ -351,7 +367,11 @@ impl<T: SubTable> Shard<T> {
         sid: &Sid,
         max: Option<u64>,
     ) -> Result<Option<SubId>, ShardFault>
-        ensures { IsDecided (shard_refusal self.old.state (Unsubscribe conn sid.now max)) (λ ended. DoesStep self.old (Unsubscribe conn sid.now max) (Unsubscribed (option_to_list ended)) self.new) (IsLeft self.old self.new) result }
+        ensures { IsDecided (shard_refusal self.old.state (Unsubscribe conn sid.now max))
+            (λ ended.
+            DoesStep self.old (Unsubscribe conn sid.now max) (Unsubscribed (option_to_list ended))
+            self.new)
+            (IsLeft self.old self.new) result }
     {
         drop_candidate(&mut self.conns, &mut self.chosen);
         if !self.conns.is_open(conn) {
@@ -375,7 +395,11 @@ impl<T: SubTable> Shard<T> {
     /// 'Slow Consumer' in its place. Gives whether it was, and the subscriptions that closed with it.
     /// Refused with [`ShardFault::NoConn`] where the connection is not there or shut.
     pub fn reply(&mut self, conn: ConnId, frame: &ReplyFrame) -> Result<Closed, Failure<ShardFault>>
-        ensures { IsAnswered (shard_refusal self.old.state (Reply conn frame.now)) (λ closed. DoesStep self.old (Reply conn frame.now) (Replied closed.shut closed.ended.items) self.new) (IsLeft self.old self.new) result }
+        ensures { IsAnswered (shard_refusal self.old.state (Reply conn frame.now))
+            (λ closed.
+            DoesStep self.old (Reply conn frame.now) (Replied closed.shut closed.ended.items)
+            self.new)
+            (IsLeft self.old self.new) result }
     {
         drop_candidate(&mut self.conns, &mut self.chosen);
         if !self.conns.is_open(conn) {
@@ -411,7 +435,9 @@ impl<T: SubTable> Shard<T> {
     /// without. Refused with [`ShardFault::NoConn`] where the connection is not there or shut. Takes no memory. (NATS documentation,
     /// "Client Protocol", "CONNECT": `headers`.)
     pub fn set_headers(&mut self, conn: ConnId, on: bool) -> Result<(), ShardFault>
-        ensures { IsDecided (shard_refusal self.old.state (SetHeaders conn on)) (λ _. DoesStep self.old (SetHeaders conn on) HeadersSet self.new) (IsLeft self.old self.new) result }
+        ensures { IsDecided (shard_refusal self.old.state (SetHeaders conn on))
+            (λ _. DoesStep self.old (SetHeaders conn on) HeadersSet self.new)
+            (IsLeft self.old self.new) result }
     {
         drop_candidate(&mut self.conns, &mut self.chosen);
         if !self.conns.is_open(conn) {
@@ -424,7 +450,9 @@ impl<T: SubTable> Shard<T> {
     /// Shuts a connection with this text: its last line is put, and all its subscriptions close. Gives
     /// those. Refused with [`ShardFault::NoConn`] where the connection is not there or shut already.
     pub fn shut(&mut self, conn: ConnId, text: ErrText) -> Result<Vec<SubId>, Failure<ShardFault>>
-        ensures { IsAnswered (shard_refusal self.old.state (Shut conn text)) (λ ended. DoesStep self.old (Shut conn text) (WasShut ended.items) self.new) (IsLeft self.old self.new) result }
+        ensures { IsAnswered (shard_refusal self.old.state (Shut conn text))
+            (λ ended. DoesStep self.old (Shut conn text) (WasShut ended.items) self.new)
+            (IsLeft self.old self.new) result }
     {
         drop_candidate(&mut self.conns, &mut self.chosen);
         if !self.conns.is_open(conn) {
@@ -446,7 +474,9 @@ impl<T: SubTable> Shard<T> {
     /// The connection goes with all that waits for it, and all its subscriptions close. Gives those.
     /// Refused with [`ShardFault::NoConn`] where it is not there.
     pub fn detach(&mut self, conn: ConnId) -> Result<Vec<SubId>, Failure<ShardFault>>
-        ensures { IsAnswered (shard_refusal self.old.state (Detach conn)) (λ ended. DoesStep self.old (Detach conn) (Detached ended.items) self.new) (IsLeft self.old self.new) result }
+        ensures { IsAnswered (shard_refusal self.old.state (Detach conn))
+            (λ ended. DoesStep self.old (Detach conn) (Detached ended.items) self.new)
+            (IsLeft self.old self.new) result }
     {
         drop_candidate(&mut self.conns, &mut self.chosen);
         if !self.conns.is_known(conn) {
@@ -462,7 +492,9 @@ impl<T: SubTable> Shard<T> {
     /// Gives and removes the first entries that wait for a connection, or all where there are fewer,
     /// also for one that is shut. Refused with [`ShardFault::NoConn`] where it is not there.
     pub fn take(&mut self, conn: ConnId, count: usize) -> Result<Vec<Entry>, Failure<ShardFault>>
-        ensures { IsAnswered (shard_refusal self.old.state (Take conn count)) (λ entries. DoesStep self.old (Take conn count) (Taken entries.items) self.new) (IsLeft self.old self.new) result }
+        ensures { IsAnswered (shard_refusal self.old.state (Take conn count))
+            (λ entries. DoesStep self.old (Take conn count) (Taken entries.items) self.new)
+            (IsLeft self.old self.new) result }
     {
         drop_candidate(&mut self.conns, &mut self.chosen);
         if !self.conns.is_known(conn) {
@@ -481,7 +513,9 @@ impl<T: SubTable> Shard<T> {
         count: usize,
         out: &mut Vec<u8>,
     ) -> Result<usize, Failure<ShardFault>>
-        ensures { IsAnswered (shard_refusal self.old.state (Take conn count)) (λ taken. TakesBytes self.old conn count taken out.old.items out.new.items self.new) (IsLeft self.old self.new × (out.new.items ≡ out.old.items)) result }
+        ensures { IsAnswered (shard_refusal self.old.state (Take conn count))
+            (λ taken. TakesBytes self.old conn count taken out.old.items out.new.items self.new)
+            (IsLeft self.old self.new × (out.new.items ≡ out.old.items)) result }
     {
         drop_candidate(&mut self.conns, &mut self.chosen);
         if !self.conns.is_known(conn) {
@@ -542,7 +576,9 @@ impl<T: SubTable> Shard<T> {
     /// with the job handed back, with [`ShardFault::JobInHand`], and then with [`ShardFault::WrongTurn`]
     /// where the turn is not the one behind the last that was finished.
     pub fn begin(&mut self, job: Job, copies: bool) -> Result<Begun, BeginFault>
-        ensures { IsAnsweredOrBack (shard_refusal self.old.state (Begin job)) job (λ begun. HasBegun copies self.old job begun self.new) (IsLeft self.old self.new) result }
+        ensures { IsAnsweredOrBack (shard_refusal self.old.state (Begin job)) job
+            (λ begun. HasBegun copies self.old job begun self.new) (IsLeft self.old self.new)
+            result }
     {
         drop_candidate(&mut self.conns, &mut self.chosen);
         if self.hand.is_some() {
@@ -587,7 +623,9 @@ impl<T: SubTable> Shard<T> {
         index: u64,
         copies: bool,
     ) -> Result<Option<Candidate>, Failure<ShardFault>>
-        ensures { IsAnswered (shard_refusal self.old.state (Claim index false)) (λ candidate. Chooses copies self.old index candidate self.new) (IsLeft self.old self.new) result }
+        ensures { IsAnswered (shard_refusal self.old.state (Claim index false))
+            (λ candidate. Chooses copies self.old index candidate self.new)
+            (IsLeft self.old self.new) result }
     {
         drop_candidate(&mut self.conns, &mut self.chosen);
         let Some(job) = &self.hand else {
@@ -615,8 +653,10 @@ impl<T: SubTable> Shard<T> {
     /// message of its maximum, and is given then. Takes no memory.
     pub fn place(&mut self, index: u64) -> Option<SubId>
         requires { Stands index self.old }
-        ensures placed { self.new ≡ held_at_rest (after_put_chosen self.old.state self.old.state.hand self.old.chosen) }
-        ensures ended { option_to_list result ≡ ended_ids self.old.state.shard (ended_by_chosen self.old.chosen) }
+        ensures placed { self.new
+            ≡ held_at_rest (after_put_chosen self.old.state self.old.state.hand self.old.chosen) }
+        ensures ended { option_to_list result
+            ≡ ended_ids self.old.state.shard (ended_by_chosen self.old.chosen) }
     {
         prove!(index < self.next_index);
         let Some(serial) = self.chosen.take() else {
@@ -643,7 +683,8 @@ impl<T: SubTable> Shard<T> {
     /// Finishes the turn in hand. Refused with [`ShardFault::NoJob`], and with
     /// [`ShardFault::NotAllTried`] where a queue name of the job was not tried. Takes no memory.
     pub fn end(&mut self) -> Result<(), ShardFault>
-        ensures { IsDecided (shard_refusal self.old.state End) (λ _. DoesStep self.old End Finished self.new) (IsLeft self.old self.new) result }
+        ensures { IsDecided (shard_refusal self.old.state End)
+            (λ _. DoesStep self.old End Finished self.new) (IsLeft self.old self.new) result }
     {
         drop_candidate(&mut self.conns, &mut self.chosen);
         let Some(job) = &self.hand else {

@@ -38,12 +38,14 @@ serials_of conn subs = map serial_of (filter (is_of conn) subs)
 -- the list without the one of this serial
 abbrev pub without_serial : ℕ → List Subscription → List Subscription
 without_serial serial [] = []
-without_serial serial (sub ∷ subs) = if has_serial serial sub then subs else sub ∷ without_serial serial subs
+without_serial serial (sub ∷ subs) =
+    if has_serial serial sub then subs else sub ∷ without_serial serial subs
 
 -- the list with a change to the one of this serial
 abbrev pub with_changed : ℕ → (Subscription → Subscription) → List Subscription → List Subscription
 with_changed serial change [] = []
-with_changed serial change (sub ∷ subs) = if has_serial serial sub then change sub ∷ subs else sub ∷ with_changed serial change subs
+with_changed serial change (sub ∷ subs) =
+    if has_serial serial sub then change sub ∷ subs else sub ∷ with_changed serial change subs
 
 -- so many messages more can be counted for the one of this serial
 abbrev pub CountsFit : ℕ → ℕ → List Subscription → Type 0
@@ -81,12 +83,17 @@ length_for len sub = len + length sub.sid
 
 -- there is room for one such message for each of these
 abbrev pub is_room : ℕ → Room → List Subscription → Bool
-is_room len room subs = nat_le (length subs) room.entries && nat_le (sum_by (length_for len) subs) room.bytes
+is_room len room subs =
+    nat_le (length subs) room.entries && nat_le (sum_by (length_for len) subs) room.bytes
 
 -- what is left of room behind an entry of so many bytes
 abbrev pub room_behind : ℕ → Room → Option Room
-room_behind len room = if nat_le 1 room.entries && nat_le len room.bytes then Some (record { entries = room.entries - 1; bytes = room.bytes - len }) else None
+room_behind len room =
+    if nat_le 1 room.entries && nat_le len room.bytes
+    then Some (record { entries = room.entries - 1; bytes = room.bytes - len })
+    else None
 
 -- and behind the message for a subscription, if it is one of these
 abbrev pub room_left : ℕ → List ℕ → ℕ → Subscription → Room → Option Room
-room_left conn subject len sub room = if is_of conn sub && gets subject sub then room_behind (length_for len sub) room else Some room
+room_left conn subject len sub room =
+    if is_of conn sub && gets subject sub then room_behind (length_for len sub) room else Some room

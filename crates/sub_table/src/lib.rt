@@ -103,7 +103,8 @@ pub trait SubTable: Sized + Drop {
 
     /// Those whose pattern matches the subject, in order of opening.
     fn matching(&self, subject: &Subject) -> Result<Vec<&Subscription>, AllocError>
-        ensures { IfOk result (λ subs. map (λ sub. sub.now) subs.items ≡ filter (gets subject.now) (contents self.now)) };
+        ensures { IfOk result (λ subs.
+            map (λ sub. sub.now) subs.items ≡ filter (gets subject.now) (contents self.now)) };
 
     /// Whether there is room for a message to each subscription of the connection whose pattern matches the subject. The
     /// message has so many bytes beside the id of the subscription. Takes no memory.
@@ -113,7 +114,8 @@ pub trait SubTable: Sized + Drop {
     /// Puts the serials of a connection's subscriptions behind those that are there, in order of
     /// opening. Want of memory leaves the list as it was.
     fn serials_of(&self, conn: ConnId, serials: &mut Vec<u64>) -> Result<(), AllocError>
-        ensures ok { OnOk result (serials.new.items ≡ serials.old.items ++ serials_of conn (contents self.now)) }
+        ensures ok { OnOk result
+            (serials.new.items ≡ serials.old.items ++ serials_of conn (contents self.now)) }
         ensures err { OnErr result (serials.new.items ≡ serials.old.items) };
 
     /// Counts one more message that the one of this serial got. Takes no memory.

@@ -15,7 +15,8 @@ list_of None = []
 list_of (Some list) = list.items
 
 -- what is under the key, keys being compared by eq
-abbrev pub list_at : {K : Type 0} → (K → K → Bool) → HashMap K (Vec ℕ Global) (BuildHasherDefault FoldHasher) → K → List ℕ
+abbrev pub list_at : {K : Type 0} → (K → K → Bool)
+    → HashMap K (Vec ℕ Global) (BuildHasherDefault FoldHasher) → K → List ℕ
 list_at eq groups key = list_of (get eq groups key)
 
 abbrev pub first_of : List ℕ → Option ℕ
@@ -34,7 +35,9 @@ abbrev pub serials_called : ℕ × Items ℕ → List Subscription → List ℕ
 serials_called key subs = map serial_of (filter (is_called key.0 key.1.items) subs)
 
 -- the serials under each key of a connection and an id are those of what it calls so
-abbrev pub AreCalled : HashMap (ℕ × Items ℕ) (Vec ℕ Global) (BuildHasherDefault FoldHasher) → List Subscription → Type 0
+abbrev pub AreCalled : HashMap (ℕ × Items ℕ) (Vec ℕ Global) (BuildHasherDefault FoldHasher)
+    → List Subscription
+    → Type 0
 AreCalled by_sid subs = (key : ℕ × Items ℕ) → list_at called_eq by_sid key ≡ serials_called key subs
 
 -- the list without those of these serials

@@ -12,7 +12,8 @@ serials_for subject subs = map serial_of (filter (gets subject) subs)
 
 -- what was written in this generation is what its subject matches
 abbrev pub IsRight : List Subscription → ℕ → Slot → Type 0
-IsRight subs generation slot = slot.generation ≡ generation → slot.serials.items ≡ serials_for slot.subject.items subs
+IsRight subs generation slot =
+    slot.generation ≡ generation → slot.serials.items ≡ serials_for slot.subject.items subs
 
 -- what the slots have of this generation is what matches
 abbrev pub AreRight : List Subscription → ℕ → List Slot → Type 0

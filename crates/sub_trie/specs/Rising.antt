@@ -34,7 +34,8 @@ BySerial = HashMap ℕ Subscription (BuildHasherDefault FoldHasher)
 -- an entry put where its serial belongs, in place of one that has it
 abbrev pub rows_with : ℕ × Subscription → List (ℕ × Subscription) → List (ℕ × Subscription)
 rows_with e [] = e ∷ []
-rows_with e (f ∷ es) = if nat_lt e.0 f.0 then e ∷ f ∷ es else (if nat_eq e.0 f.0 then e ∷ es else f ∷ rows_with e es)
+rows_with e (f ∷ es) =
+    if nat_lt e.0 f.0 then e ∷ f ∷ es else (if nat_eq e.0 f.0 then e ∷ es else f ∷ rows_with e es)
 
 abbrev pub in_order : List (ℕ × Subscription) → List (ℕ × Subscription)
 in_order [] = []

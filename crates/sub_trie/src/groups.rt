@@ -14,7 +14,10 @@ pub(crate) fn push_serial<K: Eq + Hash + Drop>(
     key: K,
     serial: u64,
 ) -> Result<(), AllocError>
-    ensures ok { OnOk result ((q : K) → list_at K.eq groups.new q ≡ (if K.eq key q then list_at K.eq groups.old key ++ serial ∷ [] else list_at K.eq groups.old q)) }
+    ensures ok { OnOk result ((q : K)
+        → list_at K.eq groups.new q
+        ≡ (if K.eq key q then list_at K.eq groups.old key ++ serial ∷ []
+        else list_at K.eq groups.old q)) }
     ensures err { OnErr result ((q : K) → list_at K.eq groups.new q ≡ list_at K.eq groups.old q) }
 {
     if let Some(list) = groups.get_mut(&key) {
@@ -52,7 +55,10 @@ pub(crate) fn take_serial<K: Eq + Hash + Drop>(
     key: &K,
     serial: u64,
 )
-    ensures { (q : K) → list_at K.eq groups.new q ≡ (if K.eq key.now q then filter (is_other serial) (list_at K.eq groups.old key.now) else list_at K.eq groups.old q) }
+    ensures { (q : K)
+        → list_at K.eq groups.new q
+        ≡ (if K.eq key.now q then filter (is_other serial) (list_at K.eq groups.old key.now)
+        else list_at K.eq groups.old q) }
 {
     if is_alone(groups, key, serial) {
         groups.remove(key);
@@ -70,7 +76,8 @@ pub(crate) fn take_all<K: Eq + Hash + Drop>(
     key: &K,
 ) -> Vec<u64>
     ensures given { result.items ≡ list_at K.eq groups.old key.now }
-    ensures left { (q : K) → list_at K.eq groups.new q ≡ (if K.eq key.now q then [] else list_at K.eq groups.old q) }
+    ensures left { (q : K)
+        → list_at K.eq groups.new q ≡ (if K.eq key.now q then [] else list_at K.eq groups.old q) }
 {
     match groups.remove(key) {
         Some(list) => list,
@@ -110,7 +117,8 @@ pub(crate) fn copy_serials<K: Eq + Hash + Drop>(
     key: &K,
     serials: &mut Vec<u64>,
 ) -> Result<(), AllocError>
-    ensures ok { OnOk result (serials.new.items ≡ serials.old.items ++ list_at K.eq groups.now key.now) }
+    ensures ok { OnOk result
+        (serials.new.items ≡ serials.old.items ++ list_at K.eq groups.now key.now) }
     ensures err { OnErr result (serials.new.items ≡ serials.old.items) }
 {
     match groups.get(key) {

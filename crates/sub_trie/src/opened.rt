@@ -65,7 +65,8 @@ impl Opened {
     /// Opens one more, whose serial is above all others. Want of memory leaves all as it was.
     pub(crate) fn add(&mut self, sub: Subscription) -> Result<(), AllocError>
         requires { All (λ other. other.serial < sub.serial) (subs_in_order self.old.subs) }
-        ensures ok { OnOk result (subs_in_order self.new.subs ≡ subs_in_order self.old.subs ++ sub ∷ []) }
+        ensures ok { OnOk result
+            (subs_in_order self.new.subs ≡ subs_in_order self.old.subs ++ sub ∷ []) }
         ensures err { OnErr result (subs_in_order self.new.subs ≡ subs_in_order self.old.subs) }
     {
         let cost = self.cost.checked_add(sub.key.cost()).ok_or(AllocError)?;
@@ -94,7 +95,8 @@ impl Opened {
 
     /// The serials of those whose pattern matches the subject, in order of opening.
     fn serials_for(&self, subject: &Subject) -> Result<Vec<u64>, AllocError>
-        ensures { IfOk result (λ serials. serials.items ≡ serials_for subject.now (subs_in_order self.now.subs)) }
+        ensures { IfOk result (λ serials.
+            serials.items ≡ serials_for subject.now (subs_in_order self.now.subs)) }
     {
         let mut serials = Vec::new(self.alloc);
         self.trie.matching(subject, &mut serials)?;
@@ -104,7 +106,9 @@ impl Opened {
 
     /// Those of these serials.
     fn look_up(&self, serials: &[u64]) -> Result<Vec<&Subscription>, AllocError>
-        ensures { IfOk result (λ subs. map (λ sub. sub.now) subs.items ≡ subs_of_serials (subs_in_order self.now.subs) serials.now) }
+        ensures { IfOk result (λ subs.
+            map (λ sub. sub.now) subs.items
+            ≡ subs_of_serials (subs_in_order self.now.subs) serials.now) }
     {
         let mut subs = Vec::with_capacity(self.alloc, serials.len())?;
         for serial in serials {
@@ -125,7 +129,10 @@ impl Opened {
         len: usize,
         room: Room,
     ) -> bool
-        ensures { result ≡ is_room len room (matching_of conn subject.now (subs_of_serials (subs_in_order self.now.subs) serials.now)) }
+        ensures { result
+            ≡ is_room len room
+            (matching_of conn subject.now
+            (subs_of_serials (subs_in_order self.now.subs) serials.now)) }
     {
         let mut room = room;
         for serial in serials {
@@ -142,7 +149,9 @@ impl Opened {
 
     /// Those whose pattern matches the subject, in order of opening.
     pub(crate) fn matching(&self, subject: &Subject) -> Result<Vec<&Subscription>, AllocError>
-        ensures { IfOk result (λ subs. map (λ sub. sub.now) subs.items ≡ filter (gets subject.now) (subs_in_order self.now.subs)) }
+        ensures { IfOk result (λ subs.
+            map (λ sub. sub.now) subs.items
+            ≡ filter (gets subject.now) (subs_in_order self.now.subs)) }
     {
         if self.len() == 0 {
             return Ok(Vec::new(self.alloc));
@@ -172,7 +181,8 @@ impl Opened {
     /// Counts so many messages more that the one of this serial got. Takes no memory.
     pub(crate) fn count_many(&mut self, serial: u64, count: u64)
         requires { CountsFit serial count (subs_in_order self.old.subs) }
-        ensures { subs_in_order self.new.subs ≡ with_more serial count (subs_in_order self.old.subs) }
+        ensures { subs_in_order self.new.subs
+            ≡ with_more serial count (subs_in_order self.old.subs) }
     {
         if let Some(sub) = self.subs.get_mut(&serial) {
             sub.delivered += count;
@@ -191,7 +201,8 @@ impl Opened {
     /// Closes the one of this serial, and gives it. Takes no memory.
     pub(crate) fn remove(&mut self, serial: u64) -> Option<Subscription>
         ensures closed { result ≡ find_in (has_serial serial) (subs_in_order self.old.subs) }
-        ensures rest { subs_in_order self.new.subs ≡ without_serial serial (subs_in_order self.old.subs) }
+        ensures rest { subs_in_order self.new.subs
+            ≡ without_serial serial (subs_in_order self.old.subs) }
     {
         match self.subs.remove(&serial) {
             None => None,

@@ -111,7 +111,8 @@ impl Recent {
 
     /// What was kept counts no longer. Takes no memory.
     pub(crate) fn forget(&mut self)
-        ensures { (subs : List Subscription) → AreRight subs self.new.generation self.new.slots.items }
+        ensures { (subs : List Subscription)
+            → AreRight subs self.new.generation self.new.slots.items }
     {
         match self.generation.checked_add(1) {
             Some(next) => self.generation = next,
@@ -121,7 +122,9 @@ impl Recent {
 
     /// The serials of what the subject matches, where they are kept. Takes no memory.
     pub(crate) fn recall(&self, subject: &[u8]) -> Option<&[u64]>
-        ensures { (subs : List Subscription) → AreRight subs self.now.generation self.now.slots.items → IfSome result (λ serials. serials.now ≡ serials_for subject.now subs) }
+        ensures { (subs : List Subscription)
+            → AreRight subs self.now.generation self.now.slots.items
+            → IfSome result (λ serials. serials.now ≡ serials_for subject.now subs) }
     {
         let place = place_of(&self.hashes, hash_of(subject))?;
         let slot = self.slots.get(place)?;
@@ -134,7 +137,9 @@ impl Recent {
 
     /// Whether a subject is to be kept that is told now: it is one of many.
     pub(crate) fn is_due(&mut self) -> bool
-        ensures { (subs : List Subscription) → AreRight subs self.old.generation self.old.slots.items → AreRight subs self.new.generation self.new.slots.items }
+        ensures { (subs : List Subscription)
+            → AreRight subs self.old.generation self.old.slots.items
+            → AreRight subs self.new.generation self.new.slots.items }
     {
         self.told = self.told.wrapping_add(1);
         self.told % TOLD_FOR_EACH_KEPT == 0
@@ -142,7 +147,10 @@ impl Recent {
 
     /// Keeps what the subject matches, where these are few and there is memory.
     pub(crate) fn keep(&mut self, subject: &[u8], serials: &[u64])
-        ensures { (subs : List Subscription) → AreRight subs self.old.generation self.old.slots.items → serials.now ≡ serials_for subject.now subs → AreRight subs self.new.generation self.new.slots.items }
+        ensures { (subs : List Subscription)
+            → AreRight subs self.old.generation self.old.slots.items
+            → serials.now ≡ serials_for subject.now subs
+            → AreRight subs self.new.generation self.new.slots.items }
     {
         if serials.len() > MOST_SERIALS {
             return;

@@ -33,7 +33,8 @@ fn call_key(conn: ConnId, sid: &Sid) -> Called
 /// Closes the one of this serial, and takes it away from its connection's id. Takes no memory.
 fn close_one(opened: &mut Opened, by_sid: &mut BySid, serial: u64)
     requires { AreCalled by_sid.old (subs_in_order opened.old.subs) }
-    ensures closed { subs_in_order opened.new.subs ≡ without_serial serial (subs_in_order opened.old.subs) }
+    ensures closed { subs_in_order opened.new.subs
+        ≡ without_serial serial (subs_in_order opened.old.subs) }
     ensures called { AreCalled by_sid.new (subs_in_order opened.new.subs) }
 {
     match opened.remove(serial) {
@@ -45,7 +46,8 @@ fn close_one(opened: &mut Opened, by_sid: &mut BySid, serial: u64)
 /// Closes those of these serials, and takes each away from its connection's id. Takes no memory.
 fn close_each(opened: &mut Opened, by_sid: &mut BySid, serials: &[u64])
     requires { AreCalled by_sid.old (subs_in_order opened.old.subs) }
-    ensures closed { subs_in_order opened.new.subs ≡ without_each serials.now (subs_in_order opened.old.subs) }
+    ensures closed { subs_in_order opened.new.subs
+        ≡ without_each serials.now (subs_in_order opened.old.subs) }
     ensures called { AreCalled by_sid.new (subs_in_order opened.new.subs) }
 {
     for serial in serials {
@@ -63,7 +65,8 @@ pub struct TrieTable {
     by_conn: HashMap<u64, Vec<u64>>,
     /// The serials of what a connection calls by an id.
     by_sid: BySid,
-    ghost owned: { (conn : ℕ) → list_at nat_eq by_conn conn ≡ serials_of conn (subs_in_order opened.subs) },
+    ghost owned: { (conn : ℕ)
+        → list_at nat_eq by_conn conn ≡ serials_of conn (subs_in_order opened.subs) },
     ghost called: { AreCalled by_sid (subs_in_order opened.subs) },
 }
 

@@ -19,10 +19,12 @@ text_fits most bad [] none = omega arith
 text_fits most bad (x ∷ xs) none = not_above most (length (x ∷ xs)) _ _ none
 
 pub pattern_fits : (text : List ℕ) → pattern_fault text ≡ None → length text ≤ MAX_SUBJECT
-pattern_fits text none = text_fits MAX_SUBJECT (has_forbidden text) text (first_none _ (pattern_token_fault (tokens text)) none)
+pattern_fits text none =
+    text_fits MAX_SUBJECT (has_forbidden text) text (first_none _ (pattern_token_fault (tokens text)) none)
 
 pub subject_fits : (text : List ℕ) → subject_fault text ≡ None → length text ≤ MAX_SUBJECT
-subject_fits text none = text_fits MAX_SUBJECT (has_forbidden text) text (first_none _ (subject_token_fault (tokens text)) none)
+subject_fits text none =
+    text_fits MAX_SUBJECT (has_forbidden text) text (first_none _ (subject_token_fault (tokens text)) none)
 
 pub queue_name_fits : (text : List ℕ) → queue_name_fault text ≡ None → length text ≤ MAX_QUEUE_NAME
 queue_name_fits text none = text_fits MAX_QUEUE_NAME (has_forbidden text) text none

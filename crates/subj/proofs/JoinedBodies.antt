@@ -8,6 +8,9 @@ use Rattle.subj.specs.Messages.{Body, is_block, split_body}
 abbrev body_if : List ℕ → List ℕ → Option Body
 body_if block payload = if is_block block then Some (record { headers = Some block; payload = payload }) else None
 
-pub joined_splits : (block payload : List ℕ) → split_body (block ++ payload) (length block) ≡ (if is_block block then Some (record { headers = Some block; payload = payload }) else None)
+pub joined_splits : (block payload : List ℕ)
+    → split_body (block ++ payload) (length block)
+    ≡ (if is_block block then Some (record { headers = Some block; payload = payload }) else None)
 joined_splits block payload =
-    ap (λ front. body_if front (drop (length block) (block ++ payload))) (take-append_seam block payload) ∙ ap (body_if block) (drop-append_seam block payload)
+    ap (λ front. body_if front (drop (length block) (block ++ payload))) (take-append_seam block payload)
+    ∙ ap (body_if block) (drop-append_seam block payload)

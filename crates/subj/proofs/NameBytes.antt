@@ -23,4 +23,6 @@ no_bad_byte false false valid = refl
 
 pub name_is_text : (name : List ℕ) → node_name_fault name ≡ None → IsUtf8 name
 name_is_text [] valid = IsUtf8-from_ascii [] IsAscii-nil
-name_is_text (b ∷ bs) valid = IsUtf8-from_ascii (b ∷ bs) (ascii (b ∷ bs) (no_bad_byte (nat_lt MAX_NODE_NAME (length (b ∷ bs))) (has_no_name_byte (b ∷ bs)) valid))
+name_is_text (b ∷ bs) valid =
+    IsUtf8-from_ascii (b ∷ bs)
+    (ascii (b ∷ bs) (no_bad_byte (nat_lt MAX_NODE_NAME (length (b ∷ bs))) (has_no_name_byte (b ∷ bs)) valid))

@@ -7,13 +7,27 @@ use Rattle.subj.specs.declared.limits.TheConstants.{MAX_NODE_NAME}
 use Rattle.subj.specs.Names.{node_name_fault}
 use Rattle.subj.specs.Padding.{IsPaddedName}
 
-pub over_zeros : (written text zeros : List ℕ) → written ≡ text → zeros ≡ replicate MAX_NODE_NAME 0 → length text ≤ MAX_NODE_NAME → node_name_fault text ≡ None → IsPaddedName (written ++ drop (length text) zeros) (length text)
+pub over_zeros : (written text zeros : List ℕ)
+    → written ≡ text
+    → zeros ≡ replicate MAX_NODE_NAME 0
+    → length text ≤ MAX_NODE_NAME
+    → node_name_fault text ≡ None
+    → IsPaddedName (written ++ drop (length text) zeros) (length text)
 over_zeros written text zeros same are fits valid =
     let whole : List ℕ = text ++ drop (length text) zeros in
     let is : written ++ drop (length text) zeros ≡ whole = ap (λ xs. xs ++ drop (length text) zeros) same in
-    let size : length zeros ≡ MAX_NODE_NAME = ap length are ∙ length-replicate {A = ℕ} MAX_NODE_NAME 0 in record {
-      whole = ap length is ∙ omega (arith, length-append text (drop (length text) zeros), length-drop (length text) zeros);
+    let size : length zeros ≡ MAX_NODE_NAME = ap length are ∙ length-replicate {A = ℕ} MAX_NODE_NAME 0 in
+    record {
+      whole =
+          ap length is ∙ omega (arith, length-append text (drop (length text) zeros), length-drop (length text) zeros);
       within = fits;
-      zeros = ap (drop (length text)) is ∙ drop-append_seam text (drop (length text) zeros) ∙ ap (drop (length text)) are ∙ drop-replicate (length text) MAX_NODE_NAME 0;
-      valid = ap (λ xs. node_name_fault (take (length text) xs)) is ∙ ap node_name_fault (take-append_seam text (drop (length text) zeros)) ∙ valid;
+      zeros =
+          ap (drop (length text)) is
+          ∙ drop-append_seam text (drop (length text) zeros)
+          ∙ ap (drop (length text)) are
+          ∙ drop-replicate (length text) MAX_NODE_NAME 0;
+      valid =
+          ap (λ xs. node_name_fault (take (length text) xs)) is
+          ∙ ap node_name_fault (take-append_seam text (drop (length text) zeros))
+          ∙ valid;
     }

@@ -8,9 +8,12 @@ use Rattle.subj.specs.declared.keys.Delta.{Delta}
 use Rattle.subj.specs.declared.keys.Key.{Key}
 use Rattle.subj.specs.declared.limits.TheConstants.{SUBSCRIPTION_COST}
 
--- profile: by the bytes of the pattern, then no queue name first, then by the bytes of the queue name
+-- profile: by the bytes of the pattern, then no queue name first, then by the bytes of the queue
+-- name
 abbrev pub key_cmp : Key → Key → Ordering
-key_cmp a b = ordering_then (slice_cmp nat_cmp a.pattern b.pattern) (option_cmp (slice_cmp nat_cmp) a.queue b.queue)
+key_cmp a b =
+    ordering_then (slice_cmp nat_cmp a.pattern b.pattern)
+    (option_cmp (slice_cmp nat_cmp) a.queue b.queue)
 
 abbrev pub queue_bytes : Option (List ℕ) → ℕ
 queue_bytes None = 0

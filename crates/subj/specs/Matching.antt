@@ -13,7 +13,8 @@ tokens_match [] [] = true
 tokens_match [] (token ∷ subject) = false
 tokens_match (wanted ∷ pattern) [] = false
 tokens_match (wanted ∷ pattern) (token ∷ subject) =
-    (is_rest_wildcard wanted && is_empty pattern) || (takes_token wanted token && tokens_match pattern subject)
+    (is_rest_wildcard wanted && is_empty pattern)
+    || (takes_token wanted token && tokens_match pattern subject)
 
 abbrev pub subject_matches : List ℕ → List ℕ → Bool
 subject_matches pattern subject = tokens_match (tokens pattern) (tokens subject)

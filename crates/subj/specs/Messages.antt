@@ -3,7 +3,8 @@ use Rattle.std.specs.Prelude.{ℕ, Bool, true, ◌&&◌, nat_eq, nat_le, List, [
 use Rattle.std.specs.List.{starts_with}
 use Rattle.subj.specs.declared.limits.TheConstants.{MAX_PAYLOAD}
 
--- NATS documentation, "Client Protocol": what `PUB` and `HPUB` publish; `MSG` delivers it without the headers
+-- NATS documentation, "Client Protocol": what `PUB` and `HPUB` publish; `MSG` delivers it without
+-- the headers
 pub record Content : Type 0 where
   pub subject : List ℕ
   pub reply : Option (List ℕ)
@@ -28,7 +29,8 @@ abbrev pub block_bytes : Option (List ℕ) → List ℕ
 block_bytes None = []
 block_bytes (Some block) = block
 
--- ---- NATS documentation, "Client Protocol", `PUB` and `HPUB`: behind the line stands the payload, behind the header block where there is one
+-- ---- NATS documentation, "Client Protocol", `PUB` and `HPUB`: behind the line stands the payload,
+-- behind the header block where there is one
 
 pub record Body : Type 0 where
   pub headers : Option (List ℕ)
@@ -42,15 +44,22 @@ body_of content = body_bytes content.headers content.payload
 
 -- a block is one, and within the limit with the payload behind it (profile)
 abbrev pub is_body : Option (List ℕ) → List ℕ → Bool
-is_body headers payload = are_headers headers && nat_le (length (body_bytes headers payload)) MAX_PAYLOAD
+is_body headers payload =
+    are_headers headers && nat_le (length (body_bytes headers payload)) MAX_PAYLOAD
 
 abbrev pub new_body : Option (List ℕ) → List ℕ → Option Body
-new_body headers payload = if is_body headers payload then Some (record { headers = headers; payload = payload }) else None
+new_body headers payload =
+    if is_body headers payload then Some (record { headers = headers; payload = payload }) else None
 
 -- what stands behind a line of `HPUB`, which says how many bytes the block has
 abbrev pub split_body : List ℕ → ℕ → Option Body
-split_body whole size = if is_block (take size whole) then Some (record { headers = Some (take size whole); payload = drop size whole }) else None
+split_body whole size =
+    if is_block (take size whole)
+    then Some (record { headers = Some (take size whole); payload = drop size whole })
+    else None
 
 abbrev pub content_of : List ℕ → Option (List ℕ) → Option (List ℕ) → List ℕ → Option Content
 content_of subject reply headers payload =
-    if is_body headers payload then Some (record { subject = subject; reply = reply; headers = headers; payload = payload }) else None
+    if is_body headers payload
+    then Some (record { subject = subject; reply = reply; headers = headers; payload = payload })
+    else None

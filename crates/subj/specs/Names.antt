@@ -8,7 +8,8 @@ use Rattle.subj.specs.declared.faults.NameFault.{NameFault}
 use Rattle.subj.specs.declared.faults.NameFault.TheVariants.{Empty, EmptyToken, BadByte, TooLong, WildNotLast, Wild}
 use Rattle.list_laws.specs.Lists.{is_empty}
 
--- NATS documentation, "Subject-Based Messaging": a subject's tokens are the pieces between the bytes `.`
+-- NATS documentation, "Subject-Based Messaging": a subject's tokens are the pieces between the
+-- bytes `.`
 abbrev pub is_dot : ℕ → Bool
 is_dot byte = nat_eq byte 46
 
@@ -27,7 +28,8 @@ is_wild token = is_one_wildcard token || is_rest_wildcard token
 
 -- profile: NUL, tab, LF, CR and space are in no subject, pattern, queue name or subscription id
 abbrev pub is_forbidden : ℕ → Bool
-is_forbidden byte = nat_eq byte 0 || (nat_eq byte 9 || (nat_eq byte 10 || (nat_eq byte 13 || nat_eq byte 32)))
+is_forbidden byte =
+    nat_eq byte 0 || (nat_eq byte 9 || (nat_eq byte 10 || (nat_eq byte 13 || nat_eq byte 32)))
 
 abbrev pub has_forbidden : List ℕ → Bool
 has_forbidden text = list_any is_forbidden text
@@ -37,7 +39,9 @@ abbrev pub is_between : ℕ → ℕ → ℕ → Bool
 is_between low high byte = nat_le low byte && nat_le byte high
 
 abbrev pub is_node_name_byte : ℕ → Bool
-is_node_name_byte byte = is_between 48 57 byte || (is_between 65 90 byte || (is_between 97 122 byte || (nat_eq byte 45 || nat_eq byte 95)))
+is_node_name_byte byte =
+    is_between 48 57 byte
+    || (is_between 65 90 byte || (is_between 97 122 byte || (nat_eq byte 45 || nat_eq byte 95)))
 
 abbrev pub has_no_name_byte : List ℕ → Bool
 has_no_name_byte text = list_any (λ byte. not (is_node_name_byte byte)) text
@@ -80,12 +84,15 @@ subject_token_fault ts =
     if has_empty_token ts then Some EmptyToken
     else (if has_wild_token ts then Some Wild else None)
 
--- NATS documentation, "Characters allowed and recommended for subject names"; bytes and length: profile
+-- NATS documentation, "Characters allowed and recommended for subject names"; bytes and length:
+-- profile
 abbrev pub pattern_fault : List ℕ → Option NameFault
-pattern_fault text = option_or (forbidden_fault MAX_SUBJECT text) (pattern_token_fault (tokens text))
+pattern_fault text =
+    option_or (forbidden_fault MAX_SUBJECT text) (pattern_token_fault (tokens text))
 
 abbrev pub subject_fault : List ℕ → Option NameFault
-subject_fault text = option_or (forbidden_fault MAX_SUBJECT text) (subject_token_fault (tokens text))
+subject_fault text =
+    option_or (forbidden_fault MAX_SUBJECT text) (subject_token_fault (tokens text))
 
 -- profile
 abbrev pub queue_name_fault : List ℕ → Option NameFault

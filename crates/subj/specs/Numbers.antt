@@ -4,7 +4,8 @@ use Rattle.subj.specs.declared.limits.TheConstants.{MAX_INCARNATION, MAX_COUNTER
 
 -- an incarnation is 1 to its limit (profile)
 abbrev pub incarnation_of : ℕ → Option ℕ
-incarnation_of number = if nat_eq number 0 || nat_lt MAX_INCARNATION number then None else Some number
+incarnation_of number =
+    if nat_eq number 0 || nat_lt MAX_INCARNATION number then None else Some number
 
 -- a turn is at most the limit of a counter (profile)
 abbrev pub turn_of : ℕ → Option ℕ

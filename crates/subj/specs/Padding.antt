@@ -14,9 +14,13 @@ pub record IsPaddedName (padded : List ℕ) (len : ℕ) : Type 0 where
   pub valid : node_name_fault (take len padded) ≡ None
 
 -- the array comes back from the name
-pub padded_name-take : (padded : List ℕ) (len : ℕ) → IsPaddedName padded len → (padded_name (take len padded) ≡ padded) × (length (take len padded) ≡ len)
+pub padded_name-take : (padded : List ℕ) (len : ℕ)
+    → IsPaddedName padded len
+    → (padded_name (take len padded) ≡ padded) × (length (take len padded) ≡ len)
 padded_name-take padded len is =
-    let long : length (take len padded) ≡ len = omega (arith, length-take len padded, is.whole, is.within) in (
-      ap (λ n. take len padded ++ replicate (MAX_NODE_NAME - n) 0) long ∙ ap (λ rest. take len padded ++ rest) (sym is.zeros) ∙ take-append-drop len padded,
+    let long : length (take len padded) ≡ len =
+    omega (arith, length-take len padded, is.whole, is.within) in (
+      ap (λ n. take len padded ++ replicate (MAX_NODE_NAME - n) 0) long
+          ∙ ap (λ rest. take len padded ++ rest) (sym is.zeros) ∙ take-append-drop len padded,
       long,
     )

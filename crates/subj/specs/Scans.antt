@@ -14,7 +14,14 @@ kind_of token =
 
 -- the first token's kind, and what is true of those behind it
 abbrev pub scan_tokens : Bool → List (List ℕ) → Scan
-scan_tokens forbidden [] = record { forbidden = forbidden; first = Empty; more = false; empty = false; wild = false; early = false }
+scan_tokens forbidden [] = record {
+  forbidden = forbidden;
+  first = Empty;
+  more = false;
+  empty = false;
+  wild = false;
+  early = false;
+}
 scan_tokens forbidden (token ∷ ts) = record {
   forbidden = forbidden;
   first = kind_of token;
@@ -73,7 +80,10 @@ scan_before byte scan =
       wild = some_wild scan;
       early = some_early scan;
     }
-    else record scan { forbidden = is_forbidden byte || scan.forbidden; first = kind_before byte scan.first }
+    else record scan {
+      forbidden = is_forbidden byte || scan.forbidden;
+      first = kind_before byte scan.first;
+    }
 
 -- the bytes of a text in front, the last one first
 abbrev pub scan_onto : Scan → List ℕ → Scan

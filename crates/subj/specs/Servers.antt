@@ -5,7 +5,9 @@ use Rattle.std.specs.List.{AllPairs, position_or_len, list_any}
 use Rattle.subj.specs.declared.limits.TheConstants.{MAX_NODES, MAX_SHARDS}
 use Rattle.subj.specs.Names.{node_name_fault}
 
--- one life of a server (profile): the names of the cluster's servers in the order in which all of them list them; the place of its own among them, counted from 0; its incarnation; and how many shards it has
+-- one life of a server (profile): the names of the cluster's servers in the order in which all of
+-- them list them; the place of its own among them, counted from 0; its incarnation; and how many
+-- shards it has
 pub record ServerIdentity : Type 0 where
   pub names : List (List ℕ)
   pub me : ℕ
@@ -41,12 +43,14 @@ are_apart (name ∷ names) = not (list_any (bytes_eq name) names) && are_apart n
 abbrev pub is_peer : ServerIdentity → ℕ → Bool
 is_peer server q = not (nat_eq q server.me) && nat_lt q (length server.names)
 
--- the names tell the servers apart, and the server's own place is one of theirs: what the laws of a cluster rest on
+-- the names tell the servers apart, and the server's own place is one of theirs: what the laws of a
+-- cluster rest on
 pub record IsListed (server : ServerIdentity) : Type 0 where
   pub apart : AreApart server.names
   pub listed : server.me < length server.names
 
--- what a server is, within the limits (profile); that its incarnation is one, the type of an incarnation says
+-- what a server is, within the limits (profile); that its incarnation is one, the type of an
+-- incarnation says
 pub record IsServer (server : ServerIdentity) : Type 0 where
   pub known : IsListed server
   pub named : All (λ name. node_name_fault name ≡ None) server.names

@@ -64,7 +64,10 @@ impl Model for MessageBody {
 
     ghost Value = { Body };
 
-    ghost view = { λ body. record { headers = option_map block_in body.headed; payload = body.payload } };
+    ghost view = { λ body. record {
+      headers = option_map block_in body.headed;
+      payload = body.payload;
+    } };
 
     ghost invariant = { λ body. IsWithin body.headed body.payload };
 }
@@ -109,7 +112,8 @@ impl MessageBody {
         payload: &[u8],
     ) -> Result<Option<MessageBody>, AllocError>
         requires { is_body (Some block.now) payload.now ≡ true }
-        ensures { IfOk result (λ body. body ≡ Some (record { headers = Some block.now; payload = payload.now })) }
+        ensures { IfOk result (λ body.
+            body ≡ Some (record { headers = Some block.now; payload = payload.now })) }
     {
         let whole = join(alloc, block, payload)?;
         MessageBody::split(whole, block.len())

@@ -26,7 +26,12 @@ impl Model for MessageParts {
 
     ghost Value = { Content };
 
-    ghost view = { λ parts. record { subject = parts.subject; reply = parts.reply; headers = parts.body.headers; payload = parts.body.payload } };
+    ghost view = { λ parts. record {
+      subject = parts.subject;
+      reply = parts.reply;
+      headers = parts.body.headers;
+      payload = parts.body.payload;
+    } };
 }
 
 /// The content of a publication: its subject, the subject that an answer is awaited on, its header block where it has one, and its
@@ -58,7 +63,8 @@ impl Message {
         headers: Option<Bytes>,
         payload: Bytes,
     ) -> Result<Option<Message>, AllocError>
-        ensures message { IfOk result (λ message. message ≡ content_of subject reply headers payload) }
+        ensures message { IfOk result (λ message.
+            message ≡ content_of subject reply headers payload) }
         ensures err { OnErr result (is_body headers payload ≡ true) }
     {
         let Some(body) = MessageBody::new(alloc, headers, payload)? else {
@@ -162,7 +168,8 @@ impl Pub {
         payload: Bytes,
         echo: bool,
     ) -> Result<Option<Pub>, AllocError>
-        ensures publication { IfOk result (λ publication. publication ≡ new_publication subject reply headers payload echo) }
+        ensures publication { IfOk result (λ publication.
+            publication ≡ new_publication subject reply headers payload echo) }
         ensures err { OnErr result (is_body headers payload ≡ true) }
     {
         let message = Message::new(alloc, subject, reply, headers, payload)?;

@@ -32,7 +32,10 @@ impl Model for NodeId {
 
     ghost inverse = { λ text. record { padded = padded_name text; len = length text } };
 
-    ghost inverse_ok = { λ name is i. record { padded = (padded_name-take name.padded name.len is).0 i; len = (padded_name-take name.padded name.len is).1 i } };
+    ghost inverse_ok = { λ name is i. record {
+      padded = (padded_name-take name.padded name.len is).0 i;
+      len = (padded_name-take name.padded name.len is).1 i;
+    } };
 }
 
 /// Whether a server's name may have the byte.

@@ -96,7 +96,8 @@ impl Pattern {
 /// Whether the token of a pattern takes all that is left, with what stands behind it.
 #[tactic(auto, using(crate::proofs::Tokens::tokens_are_some))]
 fn takes_rest(wanted: &[u8], behind: Option<&[u8]>) -> bool
-    ensures { result ≡ (is_rest_wildcard wanted.now && is_empty (tokens_behind (option_copied behind.entry))) }
+    ensures { result
+        ≡ (is_rest_wildcard wanted.now && is_empty (tokens_behind (option_copied behind.entry))) }
 {
     behind.is_none() && is_rest_wildcard(wanted)
 }

@@ -125,7 +125,9 @@ impl Scan {
     /// that no name may have.
     #[tactic(auto, using(crate::proofs::Scanned::forbidden_told))]
     pub(crate) fn judge(text: &[u8]) -> Result<Scan, NameFault>
-        ensures { MatchResult result (λ scan. (forbidden_fault MAX_SUBJECT text.now ≡ None) × (scan ≡ scan_of text.now)) (λ fault. forbidden_fault MAX_SUBJECT text.now ≡ Some fault) }
+        ensures { MatchResult result
+            (λ scan. (forbidden_fault MAX_SUBJECT text.now ≡ None) × (scan ≡ scan_of text.now))
+            (λ fault. forbidden_fault MAX_SUBJECT text.now ≡ Some fault) }
     {
         if text.is_empty() {
             return Err(NameFault::Empty);

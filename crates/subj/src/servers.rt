@@ -56,9 +56,15 @@ impl Model for ServerIdentity {
 
     ghost use Rattle.subj.specs.Servers.{IsServer};
 
-    ghost view = { λ s. record { names = s.names.items; me = s.me; inc = s.inc; shards = s.shards } };
+    ghost view = { λ s. record {
+      names = s.names.items;
+      me = s.me;
+      inc = s.inc;
+      shards = s.shards;
+    } };
 
-    ghost invariant = { λ s. IsServer (record { names = s.names.items; me = s.me; inc = s.inc; shards = s.shards }) };
+    ghost invariant = { λ s.
+        IsServer (record { names = s.names.items; me = s.me; inc = s.inc; shards = s.shards }) };
 }
 
 impl ServerIdentity {
@@ -71,7 +77,8 @@ impl ServerIdentity {
         inc: Incarnation,
         shards: u64,
     ) -> Option<ServerIdentity>
-        ensures { result ≡ server_of (record { names = names.items; me = me; inc = inc; shards = shards }) }
+        ensures { result
+            ≡ server_of (record { names = names.items; me = me; inc = inc; shards = shards }) }
     {
         if names.len() as u64 > MAX_NODES || me >= names.len() {
             return None;

@@ -22,7 +22,9 @@ use Rattle.shard_core.specs.ShardSteps.{IsAsked, IsHanded, answer_fits, begin_re
 use Rattle.shard_core.specs.Shards.{State, new_shard}
 use Rattle.shard_core.specs.declared.calls.Placed.{Placed}
 use Rattle.shard_core.specs.declared.faults.ShardFault.TheVariants.{BadIndex, JobInHand, NoJob, WrongTurn}
-use Rattle.shard_core.proofs.Closings.Causes.{one, subs_go_on, subs_stay_held}
+use Rattle.shard_core.proofs.Closings.Causes.{one}
+use Rattle.shard_core.proofs.Closings.Reasons.{subs_go_on}
+use Rattle.shard_core.proofs.Closings.Whys.{subs_stay_held}
 use Rattle.shard_core.proofs.Closings.Fixed.{fixed}
 use Rattle.shard_core.proofs.Steps.LawEvents.{candidate_is, walk_gives}
 use Rattle.node_threads.specs.Steps.{Done, Leads, claimed_in, claims_of, job_in, jobs_of, pair_of, placed_in, placed_by}

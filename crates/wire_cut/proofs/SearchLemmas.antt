@@ -18,7 +18,11 @@ begins_with_cr_lf-yes (x ∷ y ∷ rest) at = rw (at.cr, at.lf) refl
 pub HasCrLfAt-front : (bytes : List ℕ) → begins_with_cr_lf bytes ≡ true → HasCrLfAt bytes 0
 HasCrLfAt-front [] is = absurd (false≢true is)
 HasCrLfAt-front (x ∷ []) is = absurd (false≢true (grind (arith, nat_tests, is)))
-HasCrLfAt-front (x ∷ y ∷ rest) is = record { within = omega arith; cr = grind (arith, nat_tests, is); lf = grind (arith, nat_tests, is) }
+HasCrLfAt-front (x ∷ y ∷ rest) is = record {
+  within = omega arith;
+  cr = grind (arith, nat_tests, is);
+  lf = grind (arith, nat_tests, is);
+}
 
 pub begins_with_cr_lf-no : (bytes : List ℕ) → (HasCrLfAt bytes 0 → ⊥) → begins_with_cr_lf bytes ≡ false
 begins_with_cr_lf-no bytes none =
@@ -32,13 +36,17 @@ later x bytes k at = record { within = omega (arith, at.within); cr = at.cr; lf 
 earlier : (x : ℕ) (bytes : List ℕ) (k : ℕ) → HasCrLfAt (x ∷ bytes) (suc k) → HasCrLfAt bytes k
 earlier x bytes k at = record { within = omega (arith, at.within); cr = at.cr; lf = at.lf }
 
-pub first_cr_lf-found : (bytes : List ℕ) (i : ℕ) → HasCrLfAt bytes i → ((k : ℕ) → k < i → HasCrLfAt bytes k → ⊥) → first_cr_lf bytes ≡ Some i
+pub first_cr_lf-found : (bytes : List ℕ) (i : ℕ)
+    → HasCrLfAt bytes i
+    → ((k : ℕ) → k < i → HasCrLfAt bytes k → ⊥)
+    → first_cr_lf bytes ≡ Some i
 unfolding first_cr_lf
 first_cr_lf-found [] i at none = absurd (omega (arith, at.within))
 first_cr_lf-found (x ∷ xs) zero at none = rw (begins_with_cr_lf-yes (x ∷ xs) at) refl
 first_cr_lf-found (x ∷ xs) (suc i) at none =
     let not_here : begins_with_cr_lf (x ∷ xs) ≡ false = begins_with_cr_lf-no (x ∷ xs) (none 0 (omega arith)) in
-    let rest : first_cr_lf xs ≡ Some i = first_cr_lf-found xs i (earlier x xs i at) (λ k h here. none (suc k) (omega arith) (later x xs k here)) in
+    let rest : first_cr_lf xs ≡ Some i =
+    first_cr_lf-found xs i (earlier x xs i at) (λ k h here. none (suc k) (omega arith) (later x xs k here)) in
     rw (not_here, rest) refl
 
 pub first_cr_lf-none : (bytes : List ℕ) → ((k : ℕ) → HasCrLfAt bytes k → ⊥) → first_cr_lf bytes ≡ None
@@ -49,7 +57,9 @@ first_cr_lf-none (x ∷ xs) none =
     let rest : first_cr_lf xs ≡ None = first_cr_lf-none xs (λ k here. none (suc k) (later x xs k here)) in
     rw (not_here, rest) refl
 
-split_None : (b : Bool) (r : Option ℕ) → (if b then Some 0 else option_map (λ i. suc i) r) ≡ None → (b ≡ false) × (r ≡ None)
+split_None : (b : Bool) (r : Option ℕ)
+    → (if b then Some 0 else option_map (λ i. suc i) r) ≡ None
+    → (b ≡ false) × (r ≡ None)
 split_None true r is = absurd cc
 split_None false None is = (refl, refl)
 split_None false (Some i) is = absurd cc
@@ -59,21 +69,31 @@ split_here true r is = refl
 split_here false None is = absurd cc
 split_here false (Some i) is = let same : suc i ≡ 0 = cc in absurd (omega arith)
 
-split_later : (b : Bool) (r : Option ℕ) (i : ℕ) → (if b then Some 0 else option_map (λ i. suc i) r) ≡ Some (suc i) → (b ≡ false) × (r ≡ Some i)
+split_later : (b : Bool) (r : Option ℕ) (i : ℕ)
+    → (if b then Some 0 else option_map (λ i. suc i) r) ≡ Some (suc i)
+    → (b ≡ false) × (r ≡ Some i)
 split_later true r i is = let same : 0 ≡ suc i = cc in absurd (omega arith)
 split_later false None i is = absurd cc
-split_later false (Some j) i is = let same : suc j ≡ suc i = cc in let equal : j ≡ i = omega arith in (refl, ap (λ k. Some k) equal)
+split_later false (Some j) i is =
+    let same : suc j ≡ suc i = cc in let equal : j ≡ i = omega arith in (refl, ap (λ k. Some k) equal)
 
 not_at_front : (bytes : List ℕ) → begins_with_cr_lf bytes ≡ false → HasCrLfAt bytes 0 → ⊥
 not_at_front bytes isnt at = false≢true (sym isnt ∙ begins_with_cr_lf-yes bytes at)
 
-none_before_later : (x : ℕ) (xs : List ℕ) (i : ℕ) → begins_with_cr_lf (x ∷ xs) ≡ false → ((k : ℕ) → k < i → HasCrLfAt xs k → ⊥)
-    → (k : ℕ) → k < suc i → HasCrLfAt (x ∷ xs) k → ⊥
+none_before_later : (x : ℕ) (xs : List ℕ) (i : ℕ)
+    → begins_with_cr_lf (x ∷ xs) ≡ false
+    → ((k : ℕ) → k < i → HasCrLfAt xs k → ⊥)
+    → (k : ℕ)
+    → k < suc i
+    → HasCrLfAt (x ∷ xs) k
+    → ⊥
 none_before_later x xs i isnt none zero h at = not_at_front (x ∷ xs) isnt at
 none_before_later x xs i isnt none (suc k) h at = none k (omega arith) (earlier x xs k at)
 
 -- the answer tells that CR LF stands there, and nowhere before
-pub first_cr_lf-Some : (bytes : List ℕ) (i : ℕ) → first_cr_lf bytes ≡ Some i → HasCrLfAt bytes i × ((k : ℕ) → k < i → HasCrLfAt bytes k → ⊥)
+pub first_cr_lf-Some : (bytes : List ℕ) (i : ℕ)
+    → first_cr_lf bytes ≡ Some i
+    → HasCrLfAt bytes i × ((k : ℕ) → k < i → HasCrLfAt bytes k → ⊥)
 unfolding first_cr_lf
 first_cr_lf-Some [] i is = absurd cc
 first_cr_lf-Some (x ∷ xs) zero is = (HasCrLfAt-front (x ∷ xs) (split_here _ (first_cr_lf xs) is), λ k h at. omega arith)
@@ -88,7 +108,8 @@ pub first_cr_lf-None : (bytes : List ℕ) → first_cr_lf bytes ≡ None → (k 
 unfolding first_cr_lf
 first_cr_lf-None [] is k at = omega (arith, at.within)
 first_cr_lf-None (x ∷ xs) is zero at = not_at_front (x ∷ xs) (split_None _ (first_cr_lf xs) is).0 at
-first_cr_lf-None (x ∷ xs) is (suc k) at = first_cr_lf-None xs (split_None (begins_with_cr_lf (x ∷ xs)) (first_cr_lf xs) is).1 k (earlier x xs k at)
+first_cr_lf-None (x ∷ xs) is (suc k) at =
+    first_cr_lf-None xs (split_None (begins_with_cr_lf (x ∷ xs)) (first_cr_lf xs) is).1 k (earlier x xs k at)
 
 -- ---- a part of the bytes, and more of them
 
@@ -114,7 +135,10 @@ HasCrLfAt-append bytes more k at = record {
   lf = get_or_append_left bytes more 0 (suc k) (omega (arith, at.within)) ∙ at.lf;
 }
 
-pub HasCrLfAt-front_part : (bytes more : List ℕ) (k : ℕ) → k + 2 ≤ length bytes → HasCrLfAt (bytes ++ more) k → HasCrLfAt bytes k
+pub HasCrLfAt-front_part : (bytes more : List ℕ) (k : ℕ)
+    → k + 2 ≤ length bytes
+    → HasCrLfAt (bytes ++ more) k
+    → HasCrLfAt bytes k
 HasCrLfAt-front_part bytes more k h at = record {
   within = h;
   cr = sym (get_or_append_left bytes more 0 k (omega arith)) ∙ at.cr;
@@ -124,8 +148,11 @@ HasCrLfAt-front_part bytes more k h at = record {
 -- ---- a search for LF, which looks back for CR
 
 -- a byte of the rest of a list
-get_or-rest : (bytes : List ℕ) (from k : ℕ) → from + k < length bytes → get_or (slice_range bytes from (length bytes)) k 0 ≡ get_or bytes (from + k) 0
-get_or-rest bytes from k h = get_or-take (length bytes - from) (drop from bytes) k 0 (omega arith) ∙ get_or-drop from bytes k 0
+get_or-rest : (bytes : List ℕ) (from k : ℕ)
+    → from + k < length bytes
+    → get_or (slice_range bytes from (length bytes)) k 0 ≡ get_or bytes (from + k) 0
+get_or-rest bytes from k h =
+    get_or-take (length bytes - from) (drop from bytes) k 0 (omega arith) ∙ get_or-drop from bytes k 0
 
 length-rest : (bytes : List ℕ) (from : ℕ) → length (slice_range bytes from (length bytes)) ≡ length bytes - from
 length-rest bytes from = omega (arith, length-take (length bytes - from) (drop from bytes), length-drop from bytes)
@@ -148,9 +175,14 @@ module _ (bytes : List ℕ) (from offset : ℕ) (within : from ≤ length bytes)
 
   none_before : (k : ℕ) → suc k < from + offset → HasCrLfAt bytes k → ⊥
   none_before k high at =
-      elim (cases_lt (suc k) from) [ inl here ↦ none k (omega arith) at | inr past ↦ no_lf_before (suc k) past high at.lf ]
+      elim (cases_lt (suc k) from) [
+        | inl here ↦ none k (omega arith) at
+        | inr past ↦ no_lf_before (suc k) past high at.lf
+      ]
 
-  pub found_at : 0 < from + offset → get_or bytes (from + offset - 1) 0 ≡ 13 → Some (from + offset - 1) ≡ first_cr_lf bytes
+  pub found_at : 0 < from + offset
+      → get_or bytes (from + offset - 1) 0 ≡ 13
+      → Some (from + offset - 1) ≡ first_cr_lf bytes
   found_at some cr =
       let place : suc (from + offset - 1) ≡ from + offset = omega arith in
       let at : HasCrLfAt bytes (from + offset - 1) = record {
@@ -160,14 +192,21 @@ module _ (bytes : List ℕ) (from offset : ℕ) (within : from ≤ length bytes)
       } in
       sym (first_cr_lf-found bytes (from + offset - 1) at (λ k h. none_before k (omega arith)))
 
-  pub none_up_to : (0 < from + offset → get_or bytes (from + offset - 1) 0 ≡ 13 → ⊥) → HasNoCrLf bytes (from + offset + 1)
+  pub none_up_to : (0 < from + offset → get_or bytes (from + offset - 1) 0 ≡ 13 → ⊥)
+      → HasNoCrLf bytes (from + offset + 1)
   none_up_to no_cr k h at =
       elim (cases_lt (suc k) (from + offset)) [
-        | inr last ↦ (let place : k ≡ from + offset - 1 = omega arith in no_cr (omega arith) (ap (λ i. get_or bytes i 0) (sym place) ∙ at.cr))
+        | inr last ↦
+            (let place : k ≡ from + offset - 1 = omega arith in
+            no_cr (omega arith) (ap (λ i. get_or bytes i 0) (sym place) ∙ at.cr))
         | inl before ↦ none_before k before at
       ]
 
-pub none_at_all : (bytes : List ℕ) (from : ℕ) → from ≤ length bytes → HasNoCrLf bytes from → IsFirstByte (is_byte 10) (slice_range bytes from (length bytes)) None → None ≡ first_cr_lf bytes
+pub none_at_all : (bytes : List ℕ) (from : ℕ)
+    → from ≤ length bytes
+    → HasNoCrLf bytes from
+    → IsFirstByte (is_byte 10) (slice_range bytes from (length bytes)) None
+    → None ≡ first_cr_lf bytes
 none_at_all bytes from within none nowhere =
     sym (first_cr_lf-none bytes (λ k at. elim (cases_lt (suc k) from) [
       | inr past ↦ (let place : from + (suc k - from) ≡ suc k = omega arith in

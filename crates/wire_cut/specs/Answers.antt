@@ -6,7 +6,8 @@ use Rattle.wire_cut.specs.declared.faults.FeedFault.TheVariants as feed
 use Rattle.wire_cut.specs.declared.faults.FillFault.{FillFault}
 use Rattle.wire_cut.specs.declared.faults.FillFault.TheVariants as fill
 
--- what `feed` may answer: the fault, where one was told, and else only want of memory keeps it from taking the bytes
+-- what `feed` may answer: the fault, where one was told, and else only want of memory keeps it from
+-- taking the bytes
 abbrev pub FeedAnswers : Option CutFault → Result (Unit {0}) FeedFault → Type 0
 FeedAnswers (Some fault) result = result ≡ Err (feed.Cut fault)
 FeedAnswers None result = IsOkUnless result feed.OutOfMemory

@@ -1,6 +1,6 @@
--- Cutting a stream of bytes into lines and payloads.
--- NATS documentation, "Client Protocol": a control line ends with CR LF, and so does a payload, whose size its line announces.
--- Profile: a lone CR or LF is a byte like any other, the limits, and when each fault comes.
+-- Cutting a stream of bytes into lines and payloads. NATS documentation, "Client Protocol": a
+-- control line ends with CR LF, and so does a payload, whose size its line announces. Profile: a
+-- lone CR or LF is a byte like any other, the limits, and when each fault comes.
 use Rattle.std.specs.Prelude.{◌≡◌, ℕ, suc, ◌+◌, ◌<◌, ◌≤◌, List, [], ◌∷◌, ◌++◌, length, take, drop, nat_lt, nat_le, nat_eq, if◌then◌else◌, Bool, true, false, Option, None, Some, IsSome, Result, Ok, Err}
 use Rattle.std.specs.Option.{option_map}
 use Rattle.std.specs.List.{starts_with}
@@ -15,7 +15,8 @@ begins_with_cr_lf bytes = starts_with nat_eq bytes line_end
 -- where the first CR LF of the bytes begins
 unfoldable pub first_cr_lf : List ℕ → Option ℕ
 first_cr_lf [] = None
-first_cr_lf (x ∷ xs) = if begins_with_cr_lf (x ∷ xs) then Some 0 else option_map (λ i. suc i) (first_cr_lf xs)
+first_cr_lf (x ∷ xs) =
+    if begins_with_cr_lf (x ∷ xs) then Some 0 else option_map (λ i. suc i) (first_cr_lf xs)
 
 -- a piece of a stream, without the CR LF behind it
 pub data StreamPiece : Type 0 where
@@ -43,17 +44,21 @@ pub record CutterState : Type 0 where
   pub line_max : ℕ
   pub payload_max : ℕ
 
--- What a look at the unread bytes answers: a piece, `Ok None` where more bytes are needed, or a fault.
+-- What a look at the unread bytes answers: a piece, `Ok None` where more bytes are needed, or a
+-- fault.
 abbrev pub Answer : Type 0
 Answer = Result (Option StreamPiece) CutFault
 
--- no CR LF begins at or before `line_max`: that is a fault once as many bytes are there as the longest line and its CR LF take
+-- no CR LF begins at or before `line_max`: that is a fault once as many bytes are there as the
+-- longest line and its CR LF take
 abbrev pub cut_long_line : ℕ → List ℕ → Answer
-cut_long_line line_max unread = if nat_le (line_max + 2) (length unread) then Err LineTooLong else Ok None
+cut_long_line line_max unread =
+    if nat_le (line_max + 2) (length unread) then Err LineTooLong else Ok None
 
 abbrev pub cut_line_at : ℕ → List ℕ → Option ℕ → Answer
 cut_line_at line_max unread None = cut_long_line line_max unread
-cut_line_at line_max unread (Some i) = if nat_le i line_max then Ok (Some (line (take i unread))) else cut_long_line line_max unread
+cut_line_at line_max unread (Some i) =
+    if nat_le i line_max then Ok (Some (line (take i unread))) else cut_long_line line_max unread
 
 -- a line is what stands before the first CR LF, and has at most `line_max` bytes
 abbrev pub cut_line : ℕ → List ℕ → Answer
@@ -61,14 +66,16 @@ cut_line line_max unread = cut_line_at line_max unread (first_cr_lf unread)
 
 -- whether CR LF stands at a place, once both bytes are there
 abbrev pub cr_lf_at : List ℕ → ℕ → Option Bool
-cr_lf_at bytes at = if nat_lt (length bytes) (at + 2) then None else Some (begins_with_cr_lf (drop at bytes))
+cr_lf_at bytes at =
+    if nat_lt (length bytes) (at + 2) then None else Some (begins_with_cr_lf (drop at bytes))
 
 abbrev pub cut_payload_at : ℕ → List ℕ → Option Bool → Answer
 cut_payload_at size unread None = Ok None
 cut_payload_at size unread (Some true) = Ok (Some (payload (take size unread)))
 cut_payload_at size unread (Some false) = Err NoCrLfAfterPayload
 
--- a payload has the announced size, and CR LF behind it; whether it has is told once both bytes are there
+-- a payload has the announced size, and CR LF behind it; whether it has is told once both bytes are
+-- there
 abbrev pub cut_payload : ℕ → List ℕ → Answer
 cut_payload size unread = cut_payload_at size unread (cr_lf_at unread size)
 

@@ -8,7 +8,8 @@ use Rattle.std.specs.Io.KnownBytes.{Appends, Consumes, IsAtEnd}
 abbrev pub CountsFailure : {T E : Type 0} → Result T E → ℕ → ℕ → Type 0
 CountsFailure result old new = MatchResult result (λ _. new ≡ old) (λ _. new ≡ old + 1)
 
--- `old` grew to `new` by n bytes that were read, at most as many as asked for, and by none only at the end
+-- `old` grew to `new` by n bytes that were read, at most as many as asked for, and by none only at
+-- the end
 pub record Gains (old new : List ℕ) (before after : Option (List ℕ)) (asked n : ℕ) : Type 0 where
   pub bytes : List ℕ
   pub grown : new ≡ old ++ bytes
@@ -23,7 +24,9 @@ AppendsFront before after bytes = (n : ℕ) × (n < length bytes) × Appends bef
 
 -- a fill made one read, which failed just where the answer says so, or it did not reach the source
 abbrev pub ReadsOnce : Result ℕ FillFault → Type 0 → ℕ → ℕ → ℕ → ℕ → Type 0
-ReadsOnce (Ok n) untouched reads reads_after failures failures_after = (reads_after ≡ reads + 1) × (failures_after ≡ failures)
-ReadsOnce (Err Read) untouched reads reads_after failures failures_after = (reads_after ≡ reads + 1) × (failures_after ≡ failures + 1)
+ReadsOnce (Ok n) untouched reads reads_after failures failures_after =
+    (reads_after ≡ reads + 1) × (failures_after ≡ failures)
+ReadsOnce (Err Read) untouched reads reads_after failures failures_after =
+    (reads_after ≡ reads + 1) × (failures_after ≡ failures + 1)
 ReadsOnce (Err (Cut fault)) untouched reads reads_after failures failures_after = untouched
 ReadsOnce (Err OutOfMemory) untouched reads reads_after failures failures_after = untouched

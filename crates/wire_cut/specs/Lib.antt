@@ -10,7 +10,8 @@ pub mod Search
 pub mod Window
 -- what the calls that take bytes in may answer
 pub mod Answers
--- the cutter's answers as contracts see them, and what it is once the bytes that it lent are no longer borrowed
+-- the cutter's answers as contracts see them, and what it is once the bytes that it lent are no
+-- longer borrowed
 pub mod Shown
 -- what reads and writes do to known bytes and to the count of failures
 pub mod Flow

@@ -26,7 +26,13 @@ any_count = 2 ^ 64 - 1
 
 -- a source that was not read yet and never fails
 abbrev pub fresh_source : List ℕ → MemSourceState
-fresh_source bytes = record { rest = bytes; most = any_count; fails_in = 0; reads = 0; failures = 0 }
+fresh_source bytes = record {
+  rest = bytes;
+  most = any_count;
+  fails_in = 0;
+  reads = 0;
+  failures = 0;
+}
 
 -- a sink that was not written to yet and never fails
 abbrev pub fresh_sink : MemSinkState

@@ -16,7 +16,8 @@ abbrev pub IsAllowed : ℕ → Option ℕ → Type 0
 IsAllowed payload_max None = Unit {0}
 IsAllowed payload_max (Some size) = size ≤ payload_max
 
-pub record IsCutter (unread : List ℕ) (searched : ℕ) (expected : Option ℕ) (line_max payload_max : ℕ) : Type 0 where
+pub record IsCutter (unread : List ℕ) (searched : ℕ) (expected : Option ℕ)
+    (line_max payload_max : ℕ) : Type 0 where
   pub within : searched ≤ length unread
   pub reach : searched ≤ line_max + 2
   pub none : HasNoCrLf unread searched

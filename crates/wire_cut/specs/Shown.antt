@@ -1,4 +1,5 @@
--- The cutter's answers as contracts see them, and what it is once the bytes that it lent are no longer borrowed.
+-- The cutter's answers as contracts see them, and what it is once the bytes that it lent are no
+-- longer borrowed.
 use Rattle.std.specs.Prelude.{◌≡◌, Option, None, Some, Result, Ok, Err}
 use Rattle.std.specs.Borrow.{MutBor, Fml}
 use Rattle.std.specs.Io.BufRead.{Rests}

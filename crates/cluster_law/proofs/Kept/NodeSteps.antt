@@ -17,7 +17,8 @@ use Rattle.cluster_law.proofs.Kept.Invariants.{HubOk, Hubs, Passed, ShardOk, Sub
 use Rattle.cluster_law.proofs.Kept.Hubs.{Adds, quiet, still, gone}
 use Rattle.cluster_law.proofs.Kept.HubEvents.{publishes, receives, marks_set, passed_known}
 use Rattle.cluster_law.proofs.Kept.Shards.{Places, hub_step, Queued, line_more, line_push, room_of}
-use Rattle.cluster_law.proofs.Kept.ShardEvents.{ShardAdds, shard_places, shard_node, shard_out, quiet_shard, subscribe_step, close_step, begin_step, claim_step, begun_le, there, line_begin, line_end}
+use Rattle.cluster_law.proofs.Kept.ShardEvents.{ShardAdds, shard_places, shard_node, shard_out, begun_le, there, line_begin, line_end}
+use Rattle.cluster_law.proofs.Kept.ShardSteps.{quiet_shard, subscribe_step, close_step, begin_step, claim_step}
 
 pub record Both (c : Config) (w : World) (n : ℕ) (b : Node) (out : Output) : Type 0 where
   pub frames : List Routed

@@ -45,57 +45,99 @@ module _ (conn : ℕ) where
   none_new (x ∷ old) (y ∷ new) h = λ i. h zero i ++ none_new old new (λ q. h (suc q)) i
 
   -- at one place alone
-  new_at : (p : ℕ) (old new : List ShardWithJobs) (line : ShardWithJobs) → slice_get old p ≡ Some line → ((q : ℕ) → q ≢ p → news old new q conn ≡ []) → new_entries old new conn ≡ news old new p conn
+  new_at : (p : ℕ) (old new : List ShardWithJobs) (line : ShardWithJobs)
+      → slice_get old p ≡ Some line
+      → ((q : ℕ) → q ≢ p → news old new q conn ≡ [])
+      → new_entries old new conn ≡ news old new p conn
   new_at p [] new line e h = absurd (none-some line e)
   new_at zero (x ∷ old) [] line e h = sym (nothing_left (length (waits_in conn (Some x))))
   new_at (suc p) (x ∷ old) [] line e h = sym (nothing_left (length (waits_in conn (slice_get old p))))
-  new_at zero (x ∷ old) (y ∷ new) line e h = ap (λ t. news (x ∷ old) (y ∷ new) zero conn ++ t) (none_new old new (λ q. h (suc q) (omega arith))) ∙ append_nil (news (x ∷ old) (y ∷ new) zero conn)
-  new_at (suc p) (x ∷ old) (y ∷ new) line e h = λ i. h zero (omega arith) i ++ new_at p old new line e (λ q apart. h (suc q) (omega arith)) i
+  new_at zero (x ∷ old) (y ∷ new) line e h =
+      ap (λ t. news (x ∷ old) (y ∷ new) zero conn ++ t) (none_new old new (λ q. h (suc q) (omega arith)))
+      ∙ append_nil (news (x ∷ old) (y ∷ new) zero conn)
+  new_at (suc p) (x ∷ old) (y ∷ new) line e h =
+      λ i. h zero (omega arith) i ++ new_at p old new line e (λ q apart. h (suc q) (omega arith)) i
 
   -- it is what was put
-  new_are_put : (part : Option Part) (old new : List ShardWithJobs) → ((q : ℕ) → news old new q conn ≡ entries_at part q conn) → ((p : Part) → part ≡ Some p → slice_get old p.place ≡ Some p.line) → new_entries old new conn ≡ entries_for conn (put_of part)
+  new_are_put : (part : Option Part) (old new : List ShardWithJobs)
+      → ((q : ℕ) → news old new q conn ≡ entries_at part q conn)
+      → ((p : Part) → part ≡ Some p → slice_get old p.place ≡ Some p.line)
+      → new_entries old new conn ≡ entries_for conn (put_of part)
   new_are_put None old new h at = none_new old new h
   new_are_put (Some p) old new h at =
-      new_at p.place old new p.line (at p refl) (λ q apart. h q ∙ ap (λ t. cond t (entries_for conn (put_by p.line.shard p.event)) []) (false_eq p.place q (λ f. apart (sym f))))
-      ∙ h p.place ∙ ap (λ t. cond t (entries_for conn (put_by p.line.shard p.event)) []) (true_eq p.place p.place refl)
+      new_at p.place old new p.line (at p refl) (λ q apart.
+      h q
+      ∙ ap (λ t. cond t (entries_for conn (put_by p.line.shard p.event)) []) (false_eq p.place q (λ f. apart (sym f))))
+      ∙ h p.place
+      ∙ ap (λ t. cond t (entries_for conn (put_by p.line.shard p.event)) []) (true_eq p.place p.place refl)
 
 -- of what is entered, the entries of one connection
-entered_of_conn : (step node inc conn : ℕ) (ps : List Placed) → filter (is_for conn) (map (entered_by step node inc) ps) ≡ map (entered_for step node inc conn) (entries_for conn ps)
+entered_of_conn : (step node inc conn : ℕ) (ps : List Placed)
+    → filter (is_for conn) (map (entered_by step node inc) ps)
+    ≡ map (entered_for step node inc conn) (entries_for conn ps)
 entered_of_conn step node inc conn [] = refl
 entered_of_conn step node inc conn (p ∷ ps) = go (nat_eq p.conn conn) refl (entered_of_conn step node inc conn ps)
   where
-    go : (b : Bool) → nat_eq p.conn conn ≡ b → filter (is_for conn) (map (entered_by step node inc) ps) ≡ map (entered_for step node inc conn) (entries_for conn ps)
-        → cond b (entered_by step node inc p ∷ filter (is_for conn) (map (entered_by step node inc) ps)) (filter (is_for conn) (map (entered_by step node inc) ps))
-        ≡ map (entered_for step node inc conn) (map (λ (put : Placed). put.entry) (cond b (p ∷ filter (λ (put : Placed). nat_eq put.conn conn) ps) (filter (λ (put : Placed). nat_eq put.conn conn) ps)))
+    go : (b : Bool)
+        → nat_eq p.conn conn ≡ b
+        → filter (is_for conn) (map (entered_by step node inc) ps)
+        ≡ map (entered_for step node inc conn) (entries_for conn ps)
+        → cond b (entered_by step node inc p ∷ filter (is_for conn) (map (entered_by step node inc) ps))
+        (filter (is_for conn) (map (entered_by step node inc) ps))
+        ≡ map (entered_for step node inc conn)
+        (map (λ (put : Placed). put.entry)
+        (cond b (p ∷ filter (λ (put : Placed). nat_eq put.conn conn) ps)
+        (filter (λ (put : Placed). nat_eq put.conn conn) ps)))
     go true e below = λ i. entered_for step node inc (eq_true p.conn conn e i) p.entry ∷ below i
     go false e below = below
 
 -- ---- the step
 
-enters_for : (c : Cluster) (w w' : World) (n : ℕ) (e : Event) (o : Outcome) (added : List Entered) → IsFor n e → AreEntered c w n (event_for w e) o w' added → EntersBy c w e o w' added
+enters_for : (c : Cluster) (w w' : World) (n : ℕ) (e : Event) (o : Outcome) (added : List Entered)
+    → IsFor n e
+    → AreEntered c w n (event_for w e) o w' added
+    → EntersBy c w e o w' added
 enters_for c w w' n (Start m inc) o added at s = absurd at
 enters_for c w w' n (Stop m) o added at s = absurd at
-enters_for c w w' n (asked.Receive m k) o added at s = subst (λ q. AreEntered c w q (event_for w (asked.Receive q k)) o w' added) (sym at) s
-enters_for c w w' n (asked.OnInfo m session k) o added at s = subst (λ q. AreEntered c w q (event_for w (asked.OnInfo q session k)) o w' added) (sym at) s
-enters_for c w w' n (asked.OnConnect m session k) o added at s = subst (λ q. AreEntered c w q (event_for w (asked.OnConnect q session k)) o w' added) (sym at) s
-enters_for c w w' n (At m event) o added at s = subst (λ q. AreEntered c w q (event_for w (At q event)) o w' added) (sym at) s
+enters_for c w w' n (asked.Receive m k) o added at s =
+    subst (λ q. AreEntered c w q (event_for w (asked.Receive q k)) o w' added) (sym at) s
+enters_for c w w' n (asked.OnInfo m session k) o added at s =
+    subst (λ q. AreEntered c w q (event_for w (asked.OnInfo q session k)) o w' added) (sym at) s
+enters_for c w w' n (asked.OnConnect m session k) o added at s =
+    subst (λ q. AreEntered c w q (event_for w (asked.OnConnect q session k)) o w' added) (sym at) s
+enters_for c w w' n (At m event) o added at s =
+    subst (λ q. AreEntered c w q (event_for w (At q event)) o w' added) (sym at) s
 
 -- of a server that is not refused
-pub made_enters : EntriesWerePut → (server : ServerIdentity) (step now n : ℕ) (nodes new : List (Option Served)) (l l' : Listed) (e : Event) (found : Option NodeEvent) (made : Made)
-    → now ≡ step + 1 → InPlace (cluster_of server) nodes → IsFor n e → found ≡ event_for (world_of step nodes l) e
+pub made_enters : EntriesWerePut
+    → (server : ServerIdentity) (step now n : ℕ) (nodes new : List (Option Served)) (l l' : Listed) (e : Event)
+    (found : Option NodeEvent) (made : Made)
+    → now ≡ step + 1
+    → InPlace (cluster_of server) nodes
+    → IsFor n e
+    → found ≡ event_for (world_of step nodes l) e
     → world_refusal (cluster_of server) (world_of step nodes l) e ≡ None
     → IsMade n now found nodes made new
-    → Enters (cluster_of server) (world_of step nodes l) e (Done (answer_of made.did.answer)) (world_of now new l') (map (entered_by now n made.inc) made.did.entries.items)
+    → Enters (cluster_of server) (world_of step nodes l) e (Done (answer_of made.did.answer)) (world_of now new l')
+    (map (entered_by now n made.inc) made.did.entries.items)
 made_enters were_put server step now n nodes new l l' e found made now_is places at found_is cause m =
-    subst (λ o. EntersUnless o c w e out w' added) (sym cause) (enters_for c w w' n e out added at (record {
+    subst (λ o. EntersUnless o c w e out w' added) (sym cause)
+    (enters_for c w w' n e out added at (record {
       e = m.e;
       is = sym found_is ∙ m.is;
       a = running_of m.x;
       a_is = shown_at nodes n (Some m.x) m.x_is;
       b = running_of m.y;
-      b_is = ap (λ t. slice_get (map running_in t) n) m.after ∙ shown_at (set nodes n (Some m.y)) n (Some m.y) (get_set_here nodes n (Some m.x) (Some m.y) m.x_is);
-      outboxes = λ conn. ap (filter (is_for conn)) added_is ∙ entered_of_conn (suc step) n inc conn (put_of part)
-          ∙ ap (map (entered_for (suc step) n inc conn)) (sym (new_are_put conn part m.x.node.lines m.y.node.lines (λ q. were_put own m.x.node m.e m.does.won m.does.step.race m.y.node q conn steps) (λ p is. part_line own m.x.node m.e m.does.won p is)));
+      b_is =
+          ap (λ t. slice_get (map running_in t) n) m.after
+          ∙ shown_at (set nodes n (Some m.y)) n (Some m.y) (get_set_here nodes n (Some m.x) (Some m.y) m.x_is);
+      outboxes = λ conn.
+          ap (filter (is_for conn)) added_is
+          ∙ entered_of_conn (suc step) n inc conn (put_of part)
+          ∙ ap (map (entered_for (suc step) n inc conn))
+          (sym (new_are_put conn part m.x.node.lines m.y.node.lines
+          (λ q. were_put own m.x.node m.e m.does.won m.does.step.race m.y.node q conn steps)
+          (λ p is. part_line own m.x.node m.e m.does.won p is)));
       won = m.does.won;
       told = ap (λ (o : of_server.Outcome). Done o.answer) told;
       order = added_is ∙ ap (map (entered_by (suc step) n inc)) (sym (puts_are own m.x.node m.e m.does.won));

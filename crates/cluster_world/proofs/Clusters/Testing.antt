@@ -17,29 +17,51 @@ together true false d rest = refl
 together false b d rest = refl
 
 -- one server, and those behind it
-module _ (nodes : List (Option Served)) (i : ℕ) (o : Option Served) (lt : i < length nodes) (is : o ≡ get_or nodes i o) (s : Served) (up : o ≡ Some s)
-    (subject : List ℕ) (all : List (Option Running)) (here : Bool) (told : here ≡ (is_node_settled s.node && (are_peers_settled i (running_of s) 0 all && has_few_names s.server s.node.hub subject)))
+module _ (nodes : List (Option Served)) (i : ℕ) (o : Option Served) (lt : i < length nodes) (is : o ≡ get_or nodes i o)
+    (s : Served) (up : o ≡ Some s) (subject : List ℕ) (all : List (Option Running)) (here : Bool)
+    (told : here
+    ≡ (is_node_settled s.node
+    && (are_peers_settled i (running_of s) 0 all && has_few_names s.server s.node.hub subject)))
     (c : Cluster) (places : InPlace c nodes) where
-  settled_next : are_settled c subject all i (map running_in (drop i nodes)) ≡ (here && are_settled c subject all (i + 1) (map running_in (drop (i + 1) nodes)))
+  settled_next : are_settled c subject all i (map running_in (drop i nodes))
+      ≡ (here && are_settled c subject all (i + 1) (map running_in (drop (i + 1) nodes)))
   settled_next =
       let own = places i s (slice_get-get_or nodes i o lt ∙ ap Some (sym is ∙ up)) in
       at_drop_more (λ l. are_settled c subject all i (map running_in l)) nodes i o lt
       ∙ ap (λ x. are_settled c subject all i (running_in x ∷ map running_in (drop (i + 1) nodes))) (sym is ∙ up)
-      ∙ ap (λ server. is_node_settled s.node && (are_peers_settled i (running_of s) 0 all && (has_few_names server s.node.hub subject && are_settled c subject all (suc i) (map running_in (drop (i + 1) nodes))))) (sym own)
-      ∙ together (is_node_settled s.node) (are_peers_settled i (running_of s) 0 all) (has_few_names s.server s.node.hub subject) (are_settled c subject all (suc i) (map running_in (drop (i + 1) nodes)))
+      ∙ ap (λ server.
+      is_node_settled s.node
+      && (are_peers_settled i (running_of s) 0 all
+      && (has_few_names server s.node.hub subject
+      && are_settled c subject all (suc i) (map running_in (drop (i + 1) nodes)))))
+      (sym own)
+      ∙ together (is_node_settled s.node) (are_peers_settled i (running_of s) 0 all)
+      (has_few_names s.server s.node.hub subject)
+      (are_settled c subject all (suc i) (map running_in (drop (i + 1) nodes)))
       ∙ (λ k. sym told k && are_settled c subject all (sym (add-one i) k) (map running_in (drop (i + 1) nodes)))
 
   -- it passes, and the rest decides
-  pub settled_on : (whole : Bool) → here ≡ true → are_settled c subject all i (map running_in (drop i nodes)) ≡ whole → are_settled c subject all (i + 1) (map running_in (drop (i + 1) nodes)) ≡ whole
-  settled_on whole passes so = sym (settled_next ∙ ap (λ b. b && are_settled c subject all (i + 1) (map running_in (drop (i + 1) nodes))) passes) ∙ so
+  pub settled_on : (whole : Bool)
+      → here ≡ true
+      → are_settled c subject all i (map running_in (drop i nodes)) ≡ whole
+      → are_settled c subject all (i + 1) (map running_in (drop (i + 1) nodes)) ≡ whole
+  settled_on whole passes so =
+      sym (settled_next ∙ ap (λ b. b && are_settled c subject all (i + 1) (map running_in (drop (i + 1) nodes))) passes)
+      ∙ so
 
   -- it does not
-  pub settled_not : (whole : Bool) → here ≡ false → are_settled c subject all i (map running_in (drop i nodes)) ≡ whole → false ≡ whole
-  settled_not whole fails so = sym (settled_next ∙ ap (λ b. b && are_settled c subject all (i + 1) (map running_in (drop (i + 1) nodes))) fails) ∙ so
+  pub settled_not : (whole : Bool)
+      → here ≡ false
+      → are_settled c subject all i (map running_in (drop i nodes)) ≡ whole
+      → false ≡ whole
+  settled_not whole fails so =
+      sym (settled_next ∙ ap (λ b. b && are_settled c subject all (i + 1) (map running_in (drop (i + 1) nodes))) fails)
+      ∙ so
 
 -- ---- room, server by server
 
-one_by_one : (message : Content) (x : Option Running) (xs : List (Option Running)) → are_roomy message (x ∷ xs) ≡ (are_roomy message (x ∷ []) && are_roomy message xs)
+one_by_one : (message : Content) (x : Option Running) (xs : List (Option Running))
+    → are_roomy message (x ∷ xs) ≡ (are_roomy message (x ∷ []) && are_roomy message xs)
 one_by_one message None xs = refl
 one_by_one message (Some a) xs = both (list_all (has_room_in message) a.node.lines) (are_roomy message xs)
   where
@@ -47,15 +69,20 @@ one_by_one message (Some a) xs = both (list_all (has_room_in message) a.node.lin
     both true r = refl
     both false r = refl
 
-module _ (message : Content) (nodes : List (Option Served)) (i : ℕ) (o : Option Served) (here whole : Bool) (lt : i < length nodes) (is : o ≡ get_or nodes i o) (told : here ≡ are_roomy message (running_in o ∷ []))
+module _ (message : Content) (nodes : List (Option Served)) (i : ℕ) (o : Option Served) (here whole : Bool)
+    (lt : i < length nodes) (is : o ≡ get_or nodes i o) (told : here ≡ are_roomy message (running_in o ∷ []))
     (so : are_roomy message (map running_in (drop i nodes)) ≡ whole) where
-  roomy_next : are_roomy message (map running_in (drop i nodes)) ≡ (here && are_roomy message (map running_in (drop (i + 1) nodes)))
+  roomy_next : are_roomy message (map running_in (drop i nodes))
+      ≡ (here && are_roomy message (map running_in (drop (i + 1) nodes)))
   roomy_next =
-      at_drop_more (λ l. are_roomy message (map running_in l)) nodes i o lt ∙ ap (λ x. are_roomy message (running_in x ∷ map running_in (drop (i + 1) nodes))) (sym is)
-      ∙ one_by_one message (running_in o) (map running_in (drop (i + 1) nodes)) ∙ ap (λ b. b && are_roomy message (map running_in (drop (i + 1) nodes))) (sym told)
+      at_drop_more (λ l. are_roomy message (map running_in l)) nodes i o lt
+      ∙ ap (λ x. are_roomy message (running_in x ∷ map running_in (drop (i + 1) nodes))) (sym is)
+      ∙ one_by_one message (running_in o) (map running_in (drop (i + 1) nodes))
+      ∙ ap (λ b. b && are_roomy message (map running_in (drop (i + 1) nodes))) (sym told)
 
   pub roomy_on : here ≡ true → are_roomy message (map running_in (drop (i + 1) nodes)) ≡ whole
-  roomy_on passes = sym (roomy_next ∙ ap (λ b. b && are_roomy message (map running_in (drop (i + 1) nodes))) passes) ∙ so
+  roomy_on passes =
+      sym (roomy_next ∙ ap (λ b. b && are_roomy message (map running_in (drop (i + 1) nodes))) passes) ∙ so
 
   pub roomy_not : here ≡ false → false ≡ whole
   roomy_not fails = sym (roomy_next ∙ ap (λ b. b && are_roomy message (map running_in (drop (i + 1) nodes))) fails) ∙ so

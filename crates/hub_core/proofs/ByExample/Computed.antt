@@ -24,11 +24,28 @@ keeps_the_window = record { last = (refl, refl); busy = refl; later = (refl, ref
 
 pub counts_queue_names : CountsQueueNames
 unfolding busy_of
-counts_queue_names = record { most = (refl, refl); too_many = refl; next = λ new step. subst (λ (hub : State). Gives (n1 1) hub (publish_after 0 0 (codes "bar") 0) (Issued (job_on (codes "bar") 1 []) [])) (sym step.decided.1) (refl, refl) }
+counts_queue_names = record {
+  most = (refl, refl);
+  too_many = refl;
+  next = λ new step.
+      subst
+      (λ (hub : State). Gives (n1 1) hub (publish_after 0 0 (codes "bar") 0) (Issued (job_on (codes "bar") 1 []) []))
+      (sym step.decided.1) (refl, refl);
+}
 
 pub takes_frames : TakesFrames
 unfolding busy_of
-takes_frames = record { first = (refl, refl); repeated = refl; rejoined = refl; equal = refl; below = refl; skips = (refl, refl); old = refl; anew = (refl, refl); stale = refl }
+takes_frames = record {
+  first = (refl, refl);
+  repeated = refl;
+  rejoined = refl;
+  equal = refl;
+  below = refl;
+  skips = (refl, refl);
+  old = refl;
+  anew = (refl, refl);
+  stale = refl;
+}
 
 pub hears_in_order : HearsInOrder
 hears_in_order = record { gap = refl; later = (refl, refl); late = refl; next = (refl, refl) }

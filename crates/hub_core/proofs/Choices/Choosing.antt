@@ -17,64 +17,103 @@ use Rattle.hub_core.specs.Chosen.{chosen_for, wants_name_from}
 
 -- ---- an array is written from its front on
 
-pub set_step : {X : Type 0} (xs ys : List X) (i : ℕ) (x : X) → i < length xs → take (i + 1) (slice_set xs i x) ++ ys ≡ take i xs ++ (x ∷ ys)
+pub set_step : {X : Type 0} (xs ys : List X) (i : ℕ) (x : X)
+    → i < length xs
+    → take (i + 1) (slice_set xs i x) ++ ys ≡ take i xs ++ (x ∷ ys)
 set_step xs ys i x below = ap (λ l. l ++ ys) (take_more_set xs i x below) ∙ append_assoc (take i xs) (x ∷ []) ys
 
 -- ---- the names, peer by peer
 
 abbrev pub names_with : ServerIdentity → List ℕ → ℕ → Peer → List (List ℕ) → List (List ℕ)
-names_with server subject q peer names = if is_eligible server q peer then names_in subject peer.heard.keys names else names
+names_with server subject q peer names =
+    if is_eligible server q peer then names_in subject peer.heard.keys names else names
 
-not_fewer_with : (server : ServerIdentity) (subject : List ℕ) (q : ℕ) (peer : Peer) (names : List (List ℕ)) → length names ≤ length (names_with server subject q peer names)
-not_fewer_with server subject q peer names = elim (is_eligible server q peer) as (λ b. length names ≤ length (cond b (names_in subject peer.heard.keys names) names)) [
-  | true ↦ not_fewer_in subject peer.heard.keys names
-  | false ↦ omega arith
-]
+not_fewer_with : (server : ServerIdentity) (subject : List ℕ) (q : ℕ) (peer : Peer) (names : List (List ℕ))
+    → length names ≤ length (names_with server subject q peer names)
+not_fewer_with server subject q peer names =
+    elim (is_eligible server q peer) as
+    (λ b. length names ≤ length (cond b (names_in subject peer.heard.keys names) names)) [
+      | true ↦ not_fewer_in subject peer.heard.keys names
+      | false ↦ omega arith
+    ]
 
-pub not_fewer_from : (server : ServerIdentity) (subject : List ℕ) (q : ℕ) (peers : List Peer) (names : List (List ℕ)) → length names ≤ length (names_from server subject q peers names)
+pub not_fewer_from : (server : ServerIdentity) (subject : List ℕ) (q : ℕ) (peers : List Peer) (names : List (List ℕ))
+    → length names ≤ length (names_from server subject q peers names)
 not_fewer_from server subject q [] names = omega arith
 not_fewer_from server subject q (peer ∷ peers) names =
     let one = not_fewer_with server subject q peer names in
     let rest = not_fewer_from server subject (suc q) peers (names_with server subject q peer names) in
     omega arith
 
-names_step : (server : ServerIdentity) (subject : List ℕ) (peers : List Peer) (i : ℕ) (d : Peer) (names : List (List ℕ)) → i < length peers → names_from server subject i (drop i peers) names ≡ names_from server subject (suc i) (drop (i + 1) peers) (names_with server subject i (get_or peers i d) names)
-names_step server subject peers i d names below = at_drop_more (λ l. names_from server subject i l names) peers i d below
+names_step : (server : ServerIdentity) (subject : List ℕ) (peers : List Peer) (i : ℕ) (d : Peer) (names : List (List ℕ))
+    → i < length peers
+    → names_from server subject i (drop i peers) names
+    ≡ names_from server subject (suc i) (drop (i + 1) peers) (names_with server subject i (get_or peers i d) names)
+names_step server subject peers i d names below =
+    at_drop_more (λ l. names_from server subject i l names) peers i d below
 
-pub too_many_at : (server : ServerIdentity) (subject : List ℕ) (peers : List Peer) (i : ℕ) (peer : Peer) (names first all : List (List ℕ)) (most : ℕ) → i < length peers → peer ≡ get_or peers i peer → names_from server subject i (drop i peers) names ≡ names_from server subject 0 peers first → first ≡ all → most < length (names_with server subject i peer names) → most < length (names_from server subject 0 peers all)
+pub too_many_at : (server : ServerIdentity) (subject : List ℕ) (peers : List Peer) (i : ℕ) (peer : Peer)
+    (names first all : List (List ℕ)) (most : ℕ)
+    → i < length peers
+    → peer ≡ get_or peers i peer
+    → names_from server subject i (drop i peers) names ≡ names_from server subject 0 peers first
+    → first ≡ all
+    → most < length (names_with server subject i peer names)
+    → most < length (names_from server subject 0 peers all)
 too_many_at server subject peers i peer names first all most below read is begun more =
     let here = ap (λ p. length (names_with server subject i p names)) read in
-    let rest = not_fewer_from server subject (suc i) (drop (i + 1) peers) (names_with server subject i (get_or peers i peer) names) in
-    let same = ap length (sym (names_step server subject peers i peer names below) ∙ is ∙ ap (names_from server subject 0 peers) begun) in
+    let rest = not_fewer_from server subject (suc i) (drop (i + 1) peers)
+    (names_with server subject i (get_or peers i peer) names) in
+    let same = ap length
+    (sym (names_step server subject peers i peer names below) ∙ is ∙ ap (names_from server subject 0 peers) begun) in
     omega arith
 
 -- ---- where nobody wants a name, there is none
 
-none_with : (server : ServerIdentity) (subject : List ℕ) (q : ℕ) (peer : Peer) (names : List (List ℕ)) → (is_eligible server q peer && has_queue_match subject peer.heard.keys) ≡ false → names_with server subject q peer names ≡ names
+none_with : (server : ServerIdentity) (subject : List ℕ) (q : ℕ) (peer : Peer) (names : List (List ℕ))
+    → (is_eligible server q peer && has_queue_match subject peer.heard.keys) ≡ false
+    → names_with server subject q peer names ≡ names
 none_with server subject q peer names = go (is_eligible server q peer)
   where
-    go : (b : Bool) → (b && has_queue_match subject peer.heard.keys) ≡ false → cond b (names_in subject peer.heard.keys names) names ≡ names
+    go : (b : Bool)
+        → (b && has_queue_match subject peer.heard.keys) ≡ false
+        → cond b (names_in subject peer.heard.keys names) names ≡ names
     go true none = none_queued subject peer.heard.keys names none
     go false none = refl
 
-none_from : (server : ServerIdentity) (subject : List ℕ) (q : ℕ) (peers : List Peer) (names : List (List ℕ)) → wants_name_from server subject q peers ≡ false → names_from server subject q peers names ≡ names
+none_from : (server : ServerIdentity) (subject : List ℕ) (q : ℕ) (peers : List Peer) (names : List (List ℕ))
+    → wants_name_from server subject q peers ≡ false
+    → names_from server subject q peers names ≡ names
 none_from server subject q [] names none = refl
 none_from server subject q (peer ∷ peers) names none =
-    let parts = or_false (is_eligible server q peer && has_queue_match subject peer.heard.keys) (wants_name_from server subject (suc q) peers) none in
-    ap (names_from server subject (suc q) peers) (none_with server subject q peer names parts.0) ∙ none_from server subject (suc q) peers names parts.1
+    let parts = or_false (is_eligible server q peer && has_queue_match subject peer.heard.keys)
+    (wants_name_from server subject (suc q) peers) none in
+    ap (names_from server subject (suc q) peers) (none_with server subject q peer names parts.0)
+    ∙ none_from server subject (suc q) peers names parts.1
 
-pub none_wanted : (server : ServerIdentity) (hub : State) (subject : List ℕ) → (has_queue_match subject hub.counts || wants_name_from server subject 0 hub.peers) ≡ false → queue_names server hub subject ≡ []
+pub none_wanted : (server : ServerIdentity) (hub : State) (subject : List ℕ)
+    → (has_queue_match subject hub.counts || wants_name_from server subject 0 hub.peers) ≡ false
+    → queue_names server hub subject ≡ []
 none_wanted server hub subject none =
     let parts = or_false (has_queue_match subject hub.counts) (wants_name_from server subject 0 hub.peers) none in
-    ap (names_from server subject 0 hub.peers) (none_queued subject hub.counts [] parts.0) ∙ none_from server subject 0 hub.peers [] parts.1
+    ap (names_from server subject 0 hub.peers) (none_queued subject hub.counts [] parts.0)
+    ∙ none_from server subject 0 hub.peers [] parts.1
 
 -- ---- the weights, peer by peer
 
-pub weights_step : (server : ServerIdentity) (counts : Counts) (subject name : List ℕ) (peers : List Peer) (i : ℕ) (peer : Peer) (server_name : List ℕ) (weight : ℕ) → i < length peers → length peers ≡ length server.names → peer ≡ get_or peers i peer → server_name ≡ get_or server.names i server_name → weight ≡ weight_at server counts subject name i peer
-    → weights_from server counts subject name i (drop i peers) ≡ (server_name, weight) ∷ weights_from server counts subject name (i + 1) (drop (i + 1) peers)
+pub weights_step : (server : ServerIdentity) (counts : Counts) (subject name : List ℕ) (peers : List Peer) (i : ℕ)
+    (peer : Peer) (server_name : List ℕ) (weight : ℕ)
+    → i < length peers
+    → length peers ≡ length server.names
+    → peer ≡ get_or peers i peer
+    → server_name ≡ get_or server.names i server_name
+    → weight ≡ weight_at server counts subject name i peer
+    → weights_from server counts subject name i (drop i peers)
+    ≡ (server_name, weight) ∷ weights_from server counts subject name (i + 1) (drop (i + 1) peers)
 weights_step server counts subject name peers i peer server_name weight below placed read named is =
     at_drop_more (weights_from server counts subject name i) peers i peer below
-    ∙ (λ k. (sym called k, sym weighs k) ∷ weights_from server counts subject name (sym (add-one i) k) (drop (i + 1) peers))
+    ∙ (λ k.
+    (sym called k, sym weighs k) ∷ weights_from server counts subject name (sym (add-one i) k) (drop (i + 1) peers))
   where
     called : server_name ≡ name_of server i
     called = named ∙ sym (ap (λ o. unwrap_or o []) (slice_get-get_or server.names i server_name (omega arith)))
@@ -82,18 +121,34 @@ weights_step server counts subject name peers i peer server_name weight below pl
     weighs : weight ≡ weight_at server counts subject name i (get_or peers i peer)
     weighs = is ∙ ap (weight_at server counts subject name i) read
 
-pub total_step : (xs : List Weighted) (i most : ℕ) (server : Weighted) → i < length xs → total_weight (take i xs) ≤ i * most → server.1 ≤ most → total_weight (take (i + 1) (slice_set xs i server)) ≤ (i + 1) * most
+pub total_step : (xs : List Weighted) (i most : ℕ) (server : Weighted)
+    → i < length xs
+    → total_weight (take i xs) ≤ i * most
+    → server.1 ≤ most
+    → total_weight (take (i + 1) (slice_set xs i server)) ≤ (i + 1) * most
 total_step xs i most server below before one =
-    let whole = ap total_weight (take_more_set xs i server below) ∙ sum_by-append (λ (s : Weighted). s.1) (take i xs) (server ∷ []) in
+    let whole = ap total_weight (take_more_set xs i server below)
+    ∙ sum_by-append (λ (s : Weighted). s.1) (take i xs) (server ∷ []) in
     let more : (i + 1) * most ≡ i * most + most = omega arith in
     omega arith
 
-pub all_written : {X Y : Type 0} (xs ys : List X) (rest : List Y → List X) (items : List Y) (i : ℕ) → length items ≤ i → take i xs ++ rest (drop i items) ≡ ys → rest [] ≡ [] → take i xs ≡ ys
-all_written xs ys rest items i done is none = sym (append-nil (take i xs)) ∙ ap (λ l. take i xs ++ l) (sym none ∙ sym (at_drop_all rest items i done)) ∙ is
+pub all_written : {X Y : Type 0} (xs ys : List X) (rest : List Y → List X) (items : List Y) (i : ℕ)
+    → length items ≤ i
+    → take i xs ++ rest (drop i items) ≡ ys
+    → rest [] ≡ []
+    → take i xs ≡ ys
+all_written xs ys rest items i done is none =
+    sym (append-nil (take i xs)) ∙ ap (λ l. take i xs ++ l) (sym none ∙ sym (at_drop_all rest items i done)) ∙ is
 
 -- ---- the servers, name by name
 
-pub servers_step : {A B : Type 0} (f : A → Option B) (xs : List A) (ys zs : List (Option B)) (i : ℕ) (d : A) (y : Option B) → i < length xs → y ≡ option_and_then f (slice_get xs i) → zs ≡ ys ++ y ∷ [] → ys ++ map f (drop i xs) ≡ map f xs → zs ++ map f (drop (i + 1) xs) ≡ map f xs
+pub servers_step : {A B : Type 0} (f : A → Option B) (xs : List A) (ys zs : List (Option B)) (i : ℕ) (d : A)
+    (y : Option B)
+    → i < length xs
+    → y ≡ option_and_then f (slice_get xs i)
+    → zs ≡ ys ++ y ∷ []
+    → ys ++ map f (drop i xs) ≡ map f xs
+    → zs ++ map f (drop (i + 1) xs) ≡ map f xs
 servers_step f xs ys zs i d y below is put before =
     let value : y ≡ f (get_or xs i d) = is ∙ ap (option_and_then f) (slice_get-get_or xs i d below) in
     ap (λ l. l ++ map f (drop (i + 1) xs)) put
@@ -103,7 +158,12 @@ servers_step f xs ys zs i d y below is put before =
 
 -- ---- the names, copied one by one
 
-pub copy_step : {A : Type 0} (xs ys zs : List A) (i : ℕ) (d : A) (x : Option A) → i < length xs → x ≡ slice_get xs i → zs ≡ ys ++ option_to_list x → ys ++ drop i xs ≡ xs → zs ++ drop (i + 1) xs ≡ xs
+pub copy_step : {A : Type 0} (xs ys zs : List A) (i : ℕ) (d : A) (x : Option A)
+    → i < length xs
+    → x ≡ slice_get xs i
+    → zs ≡ ys ++ option_to_list x
+    → ys ++ drop i xs ≡ xs
+    → zs ++ drop (i + 1) xs ≡ xs
 copy_step xs ys zs i d x below is put before =
     let value : option_to_list x ≡ get_or xs i d ∷ [] = ap option_to_list (is ∙ slice_get-get_or xs i d below) in
     ap (λ l. l ++ drop (i + 1) xs) (put ∙ ap (λ l. ys ++ l) value)
@@ -113,14 +173,27 @@ copy_step xs ys zs i d x below is put before =
 
 -- ---- the names of one server
 
-one_name : (b : Bool) (name : List ℕ) (rest : List (List ℕ)) → cond b (name ∷ rest) rest ≡ (if b then option_to_list (Some name) else []) ++ rest
+one_name : (b : Bool) (name : List ℕ) (rest : List (List ℕ))
+    → cond b (name ∷ rest) rest ≡ (if b then option_to_list (Some name) else []) ++ rest
 one_name true name rest = refl
 one_name false name rest = refl
 
-pub chosen_step : (server_name : List ℕ) (names : List (List ℕ)) (servers : List (Option (List ℕ))) (i : ℕ) (server : Option (List ℕ)) (name : Option (List ℕ)) (put : Bool) → i < length names → i < length servers → server ≡ get_or servers i server → name ≡ slice_get names i → put ≡ is_named server_name server
-    → chosen_for server_name (drop i names) (drop i servers) ≡ (if put then option_to_list name else []) ++ chosen_for server_name (drop (i + 1) names) (drop (i + 1) servers)
+pub chosen_step : (server_name : List ℕ) (names : List (List ℕ)) (servers : List (Option (List ℕ))) (i : ℕ)
+    (server : Option (List ℕ)) (name : Option (List ℕ)) (put : Bool)
+    → i < length names
+    → i < length servers
+    → server ≡ get_or servers i server
+    → name ≡ slice_get names i
+    → put ≡ is_named server_name server
+    → chosen_for server_name (drop i names) (drop i servers)
+    ≡ (if put then option_to_list name else []) ++ chosen_for server_name (drop (i + 1) names) (drop (i + 1) servers)
 chosen_step server_name names servers i server name put below room read is test =
     at_drop_more (λ l. chosen_for server_name l (drop i servers)) names i [] below
     ∙ at_drop_more (λ l. chosen_for server_name (get_or names i [] ∷ drop (i + 1) names) l) servers i server room
-    ∙ one_name (is_named server_name (get_or servers i server)) (get_or names i []) (chosen_for server_name (drop (i + 1) names) (drop (i + 1) servers))
-    ∙ (λ k. (if (sym (test ∙ ap (is_named server_name) read)) k then option_to_list ((sym (slice_get-get_or names i [] below) ∙ sym is) k) else []) ++ chosen_for server_name (drop (i + 1) names) (drop (i + 1) servers))
+    ∙ one_name (is_named server_name (get_or servers i server)) (get_or names i [])
+    (chosen_for server_name (drop (i + 1) names) (drop (i + 1) servers))
+    ∙ (λ k.
+    (if (sym (test ∙ ap (is_named server_name) read)) k
+    then option_to_list ((sym (slice_get-get_or names i [] below) ∙ sym is) k)
+    else [])
+    ++ chosen_for server_name (drop (i + 1) names) (drop (i + 1) servers))

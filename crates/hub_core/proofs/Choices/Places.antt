@@ -24,13 +24,24 @@ place_at names apart q lt = position_or_len_is (λ other. bytes_eq other (name_a
     is = unwrap_or-slice_get names q []
 
 -- each place is that of its name
-pub named : (server : ServerIdentity) → IsListed server → (q : ℕ) → q < length server.names → place server (name_of server q) ≡ q
+pub named : (server : ServerIdentity)
+    → IsListed server
+    → (q : ℕ)
+    → q < length server.names
+    → place server (name_of server q) ≡ q
 named server is q lt = place_at server.names is.apart q lt
 
 -- where a name is listed, it is the one at its place
-pub name_there : (names : List (List ℕ)) (name : List ℕ) → place_in name names < length names → name_at names (place_in name names) ≡ name
-name_there names name lt = unwrap_or-slice_get names (place_in name names) [] ∙ same_bytes (get_or names (place_in name names) []) name (passes_at_first (λ other. bytes_eq other name) names [] lt)
+pub name_there : (names : List (List ℕ)) (name : List ℕ)
+    → place_in name names < length names
+    → name_at names (place_in name names) ≡ name
+name_there names name lt =
+    unwrap_or-slice_get names (place_in name names) []
+    ∙ same_bytes (get_or names (place_in name names) []) name
+    (passes_at_first (λ other. bytes_eq other name) names [] lt)
 
 -- a peer is not the server itself
 pub not_own : (server : ServerIdentity) (q : ℕ) → is_peer server q ≡ true → q ≢ server.me
-not_own server q e = eq_false q server.me (not_true (nat_eq q server.me) (and_true (not (nat_eq q server.me)) (nat_lt q (length server.names)) e).0)
+not_own server q e =
+    eq_false q server.me
+    (not_true (nat_eq q server.me) (and_true (not (nat_eq q server.me)) (nat_lt q (length server.names)) e).0)

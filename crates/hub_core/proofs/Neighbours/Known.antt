@@ -12,10 +12,16 @@ use Rattle.hub_core.specs.State.{Peer, peer_in_life, changed_in, changed_at}
 use Rattle.hub_core.specs.Publishing.{with_frames}
 use Rattle.hub_core.specs.AsLaw.{peer_of}
 
-pub known_is : (peer : Peer) (inc : ℕ) → peer.seen ≤ inc → Known every_rule (peer_of peer) inc (peer_of (peer_in_life peer inc))
+pub known_is : (peer : Peer) (inc : ℕ)
+    → peer.seen ≤ inc
+    → Known every_rule (peer_of peer) inc (peer_of (peer_in_life peer inc))
 known_is peer inc le = go (nat_lt peer.seen inc) refl
   where
-    go : (b : Bool) → nat_lt peer.seen inc ≡ b → Known every_rule (peer_of peer) inc (peer_of (cond b (record { seen = inc; mark = 0; heard = nothing_heard; up = false; outbox = peer.outbox }) peer))
+    go : (b : Bool)
+        → nat_lt peer.seen inc ≡ b
+        → Known every_rule (peer_of peer) inc
+        (peer_of
+        (cond b (record { seen = inc; mark = 0; heard = nothing_heard; up = false; outbox = peer.outbox }) peer))
     go true e = inl (λ same. apart (lt_true peer.seen inc e) same, lt_true peer.seen inc e, refl)
       where
         apart : peer.seen < inc → inc ≢ peer.seen
@@ -35,15 +41,21 @@ map_length f [] = refl
 map_length f (x ∷ xs) = let z = map_length f xs in omega arith
 
 -- one peer is changed
-pub peer_set : (q : ℕ) (f : Peer → Peer) (peer : Peer) (peers : List Peer) → slice_get peers q ≡ Some peer → map peer_of (changed_at f q peers) ≡ set (map peer_of peers) q (peer_of (f peer))
+pub peer_set : (q : ℕ) (f : Peer → Peer) (peer : Peer) (peers : List Peer)
+    → slice_get peers q ≡ Some peer
+    → map peer_of (changed_at f q peers) ≡ set (map peer_of peers) q (peer_of (f peer))
 peer_set q f peer peers at = ap (λ o. map peer_of (changed_in f q o peers)) at ∙ map_set peer_of peers q (f peer)
 
-pub changed_length : (f : Peer → Peer) (q : ℕ) (o : Option Peer) (peers : List Peer) → length (changed_in f q o peers) ≡ length peers
+pub changed_length : (f : Peer → Peer) (q : ℕ) (o : Option Peer) (peers : List Peer)
+    → length (changed_in f q o peers) ≡ length peers
 changed_length f q None peers = refl
 changed_length f q (Some peer) peers = set_length peers q (f peer)
 
 -- a change that isn't seen
-pub peer_unseen : (q : ℕ) (f : Peer → Peer) → ((x : Peer) → peer_of (f x) ≡ peer_of x) → (peers : List Peer) → map peer_of (changed_at f q peers) ≡ map peer_of peers
+pub peer_unseen : (q : ℕ) (f : Peer → Peer)
+    → ((x : Peer) → peer_of (f x) ≡ peer_of x)
+    → (peers : List Peer)
+    → map peer_of (changed_at f q peers) ≡ map peer_of peers
 peer_unseen q f same peers = go (slice_get peers q) refl
   where
     go : (o : Option Peer) → slice_get peers q ≡ o → map peer_of (changed_in f q o peers) ≡ map peer_of peers
@@ -51,10 +63,12 @@ peer_unseen q f same peers = go (slice_get peers q) refl
     go (Some peer) at = map_set_same peer_of peers q peer (f peer) at (same peer)
 
 -- outboxes are not seen
-pub frames_unseen : (server : ServerIdentity) (frames : List Frame) (q : ℕ) (peers : List Peer) → map peer_of (with_frames server frames q peers) ≡ map peer_of peers
+pub frames_unseen : (server : ServerIdentity) (frames : List Frame) (q : ℕ) (peers : List Peer)
+    → map peer_of (with_frames server frames q peers) ≡ map peer_of peers
 frames_unseen server frames q [] = refl
 frames_unseen server frames q (peer ∷ peers) = ap (λ t. peer_of peer ∷ t) (frames_unseen server frames (suc q) peers)
 
-pub frames_length : (server : ServerIdentity) (frames : List Frame) (q : ℕ) (peers : List Peer) → length (with_frames server frames q peers) ≡ length peers
+pub frames_length : (server : ServerIdentity) (frames : List Frame) (q : ℕ) (peers : List Peer)
+    → length (with_frames server frames q peers) ≡ length peers
 frames_length server frames q [] = refl
 frames_length server frames q (peer ∷ peers) = let z = frames_length server frames (suc q) peers in omega arith

@@ -20,27 +20,44 @@ use Rattle.hub_core.proofs.Neighbours.Known.{map_length}
 use Rattle.hub_core.proofs.Neighbours.Puts.{nothing_put}
 use Rattle.hub_core.proofs.Steps.Sound.{changes_fit, changes_listed}
 
-module _ (old : Hub) (deltas : List Delta) (count : ℕ) (frames : List Frame) (kept : IsKept old) (plan : AreCounted old.server old.state deltas count frames) where
+module _ (old : Hub) (deltas : List Delta) (count : ℕ) (frames : List Frame) (kept : IsKept old)
+    (plan : AreCounted old.server old.state deltas count frames) where
   pub told_have_room : HasRoomFor old.server frames (map (without_slow count) old.state.peers)
-  told_have_room = subst (λ n. HasRoomFor old.server frames (map (without_slow n) old.state.peers)) (sym plan.count_is) (subst (λ (frames : List Frame). HasRoomFor old.server frames (map (without_slow (count_of_changes old.state deltas)) old.state.peers)) (sym plan.frames_are) (record {
-    listed = changes_listed old.server kept.listed (count_of_changes old.state deltas) old.state.changed (changes_of old.state deltas) old.state.peers kept.sound.placed;
-    room = changes_fit old.server old.state (changes_of old.state deltas) kept.listed kept.sound;
-  }))
+  told_have_room =
+      subst (λ n. HasRoomFor old.server frames (map (without_slow n) old.state.peers)) (sym plan.count_is)
+      (subst (λ (frames : List Frame).
+      HasRoomFor old.server frames (map (without_slow (count_of_changes old.state deltas)) old.state.peers))
+      (sym plan.frames_are) (record {
+        listed =
+            changes_listed old.server kept.listed (count_of_changes old.state deltas) old.state.changed
+            (changes_of old.state deltas) old.state.peers kept.sound.placed;
+        room = changes_fit old.server old.state (changes_of old.state deltas) kept.listed kept.sound;
+      }))
 
   pub slow_placed : length (map (without_slow count) old.state.peers) ≡ length old.server.names
   slow_placed = map_length (without_slow count) old.state.peers ∙ kept.sound.placed
 
   pub numbers_left : old.state.changed + count ≤ MAX_COUNTER
   numbers_left =
-      let f = no_cause (are_refused old.state.counts deltas) BadInterest (if nat_lt MAX_COUNTER (old.state.changed + count_of_changes old.state deltas) then Some Spent else None) plan.taken in
-      let most = lt_false MAX_COUNTER (old.state.changed + count_of_changes old.state deltas) (no_cause (nat_lt MAX_COUNTER (old.state.changed + count_of_changes old.state deltas)) Spent None f.1).0 in
-      let same = plan.count_is in omega arith
+      let f = no_cause (are_refused old.state.counts deltas) BadInterest
+      (if nat_lt MAX_COUNTER (old.state.changed + count_of_changes old.state deltas) then Some Spent else None)
+      plan.taken in
+      let most = lt_false MAX_COUNTER (old.state.changed + count_of_changes old.state deltas)
+      (no_cause (nat_lt MAX_COUNTER (old.state.changed + count_of_changes old.state deltas)) Spent None f.1).0 in
+      let same = plan.count_is in
+      omega arith
 
-  told_is : after_changes old.server old.state (counts_told old.state.counts deltas) count frames ≡ after_collect old.server old.state deltas
-  told_is = ap (λ n. after_changes old.server old.state (counts_told old.state.counts deltas) n frames) plan.count_is
-      ∙ ap (after_changes old.server old.state (counts_told old.state.counts deltas) (count_of_changes old.state deltas)) plan.frames_are
+  told_is : after_changes old.server old.state (counts_told old.state.counts deltas) count frames
+      ≡ after_collect old.server old.state deltas
+  told_is =
+      ap (λ n. after_changes old.server old.state (counts_told old.state.counts deltas) n frames) plan.count_is
+      ∙ ap
+      (after_changes old.server old.state (counts_told old.state.counts deltas) (count_of_changes old.state deltas))
+      plan.frames_are
 
-  pub told_kept : (new : State) → new ≡ after_changes old.server old.state (counts_told old.state.counts deltas) count frames → IsKept (record { server = old.server; state = new })
+  pub told_kept : (new : State)
+      → new ≡ after_changes old.server old.state (counts_told old.state.counts deltas) count frames
+      → IsKept (record { server = old.server; state = new })
   told_kept new is = kept_after old.server old.state (Collect 1 deltas) new kept tt (is ∙ told_is)
       (subst (λ n. n ≤ MAX_COUNTER) (sym (ap (λ (s : State). s.published) is)) kept.published)
       (let n = ap (λ (s : State). s.changed) is in let left = numbers_left in omega arith)
@@ -67,7 +84,8 @@ stays peer room = λ i. record peer { up = (ap (λ b. peer.up && b) (fits peer r
 
 all_stay : (peers : List Peer) → HaveRoom peers → map (without_slow 0) peers ≡ peers
 all_stay [] room = refl
-all_stay (peer ∷ peers) room = λ i. stays peer (room 0 peer refl) i ∷ all_stay peers (λ q other at. room (suc q) other at) i
+all_stay (peer ∷ peers) room =
+    λ i. stays peer (room 0 peer refl) i ∷ all_stay peers (λ q other at. room (suc q) other at) i
 
 none_slow : (q : ℕ) (peers : List Peer) → HaveRoom peers → slow_from 0 q peers ≡ []
 none_slow q [] room = refl
@@ -92,14 +110,18 @@ module _ (hub : Hub) (kept : IsKept hub) where
   nothing_refused =
       let most = kept.changed in
       let within : nat_lt MAX_COUNTER (hub.state.changed + 0) ≡ false = grind (arith, nat_tests, most) in
-      ap (λ (changes : List Change). if nat_lt MAX_COUNTER (hub.state.changed + length changes) then Some Spent else None) (nothing_changes hub.state)
+      ap
+      (λ (changes : List Change). if nat_lt MAX_COUNTER (hub.state.changed + length changes) then Some Spent else None)
+      (nothing_changes hub.state)
       ∙ ap (λ b. if b then Some Spent else None) within
 
   -- the state once the peers are told these changes
   abbrev after_telling : List Change → State
   after_telling changes = record hub.state {
     changed = hub.state.changed + length changes;
-    peers = with_frames hub.server (frames_behind hub.server (length changes) hub.state.changed changes hub.state.peers) 0 (map (without_slow (length changes)) hub.state.peers);
+    peers =
+        with_frames hub.server (frames_behind hub.server (length changes) hub.state.changed changes hub.state.peers) 0
+        (map (without_slow (length changes)) hub.state.peers);
   }
 
   same : after_collect hub.server hub.state [] ≡ hub.state
@@ -108,9 +130,13 @@ module _ (hub : Hub) (kept : IsKept hub) where
     peers = (nothing_put hub.server 0 (map (without_slow 0) hub.state.peers) ∙ all_stay hub.state.peers room) i;
   })
 
-  pub nothing_told : (shard : ℕ) → DoesStep hub (Collect shard []) (Collected [] (collect_frames hub.server hub.state []) []) hub
+  pub nothing_told : (shard : ℕ)
+      → DoesStep hub (Collect shard []) (Collected [] (collect_frames hub.server hub.state []) []) hub
   nothing_told shard = record {
-    answered = ap (λ cut. Collected [] (collect_frames hub.server hub.state []) cut) (sym (none_slow 0 hub.state.peers room))
-        ∙ ap (λ (changes : List Change). Collected changes (collect_frames hub.server hub.state []) (slow_from (length changes) 0 hub.state.peers)) (sym (nothing_changes hub.state));
+    answered =
+        ap (λ cut. Collected [] (collect_frames hub.server hub.state []) cut) (sym (none_slow 0 hub.state.peers room))
+        ∙ ap (λ (changes : List Change).
+        Collected changes (collect_frames hub.server hub.state []) (slow_from (length changes) 0 hub.state.peers))
+        (sym (nothing_changes hub.state));
     after = λ i. record hub { state = sym same i };
   }

@@ -16,16 +16,20 @@ use Rattle.hub_core.proofs.Steps.Sound.{changes_fit, changes_listed}
 
 number_left : (hub : State) → drain_refusal hub ≡ None → hub.changed + 1 ≤ MAX_COUNTER
 number_left hub taken =
-    let counted = (no_cause hub.draining Draining (if nat_le MAX_COUNTER hub.changed then Some Spent else None) taken).1 in
+    let counted =
+    (no_cause hub.draining Draining (if nat_le MAX_COUNTER hub.changed then Some Spent else None) taken).1 in
     let below = le_false MAX_COUNTER hub.changed (no_cause (nat_le MAX_COUNTER hub.changed) Spent None counted).0 in
     omega arith
 
-module _ (old : Hub) (frames : List Frame) (cut : List ℕ) (kept : IsKept old) (taken : drain_refusal old.state ≡ None) (plan : IsDrainOf old frames cut) where
+module _ (old : Hub) (frames : List Frame) (cut : List ℕ) (kept : IsKept old) (taken : drain_refusal old.state ≡ None)
+    (plan : IsDrainOf old frames cut) where
   pub clearing_has_room : HasRoomFor old.server frames (map (without_slow 1) old.state.peers)
-  clearing_has_room = subst (λ (frames : List Frame). HasRoomFor old.server frames (map (without_slow 1) old.state.peers)) (sym plan.frames_are) (record {
-    listed = changes_listed old.server kept.listed 1 old.state.changed clearing old.state.peers kept.sound.placed;
-    room = changes_fit old.server old.state clearing kept.listed kept.sound;
-  })
+  clearing_has_room =
+      subst (λ (frames : List Frame). HasRoomFor old.server frames (map (without_slow 1) old.state.peers))
+      (sym plan.frames_are) (record {
+        listed = changes_listed old.server kept.listed 1 old.state.changed clearing old.state.peers kept.sound.placed;
+        room = changes_fit old.server old.state clearing kept.listed kept.sound;
+      })
 
   -- the change is counted, and these frames wait
   abbrev pub cleared : State
@@ -36,7 +40,14 @@ module _ (old : Hub) (frames : List Frame) (cut : List ℕ) (kept : IsKept old) 
   }
 
   pub cleared_kept : (new : State) → new ≡ cleared → IsKept (record { server = old.server; state = new })
-  cleared_kept new is = kept_after old.server old.state Drain new kept tt
-      (is ∙ ap (λ (frames : List Frame). record old.state { changed = old.state.changed + 1; draining = true; peers = with_frames old.server frames 0 (map (without_slow 1) old.state.peers) }) plan.frames_are)
+  cleared_kept new is =
+      kept_after old.server old.state Drain new kept tt
+      (is
+      ∙ ap (λ (frames : List Frame). record old.state {
+        changed = old.state.changed + 1;
+        draining = true;
+        peers = with_frames old.server frames 0 (map (without_slow 1) old.state.peers);
+      })
+      plan.frames_are)
       (subst (λ n. n ≤ MAX_COUNTER) (sym (ap (λ (s : State). s.published) is)) kept.published)
       (let n = ap (λ (s : State). s.changed) is in let left = number_left old.state taken in omega arith)

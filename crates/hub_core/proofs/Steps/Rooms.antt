@@ -23,29 +23,48 @@ map_none f None e = refl
 map_none f (Some x) e = absurd (none-some (f x) (sym e))
 
 -- no item passes where there is no first that does
-none_first : {A : Type 0} (p : A → Bool) (xs : List A) → position p xs ≡ None → (k : ℕ) (d : A) → k < length xs → p (get_or xs k d) ≡ false
+none_first : {A : Type 0} (p : A → Bool) (xs : List A)
+    → position p xs ≡ None
+    → (k : ℕ) (d : A)
+    → k < length xs
+    → p (get_or xs k d) ≡ false
 none_first p xs e k d lt = go (nat_lt (position_or_len p xs) (length xs)) refl e
   where
-    go : (b : Bool) → nat_lt (position_or_len p xs) (length xs) ≡ b → cond b (Some (position_or_len p xs)) None ≡ None → p (get_or xs k d) ≡ false
+    go : (b : Bool)
+        → nat_lt (position_or_len p xs) (length xs) ≡ b
+        → cond b (Some (position_or_len p xs)) None ≡ None
+        → p (get_or xs k d) ≡ false
     go true f h = absurd (none-some (position_or_len p xs) (sym h))
-    go false f h = fails_before_first p xs k d (let least = lt_false (position_or_len p xs) (length xs) f in omega arith)
+    go false f h =
+        fails_before_first p xs k d (let least = lt_false (position_or_len p xs) (length xs) f in omega arith)
 
 -- of the first shards each stands among them
-shows : (finished : List ℕ) (count place : ℕ) → place < count → place < length finished → place < length (take count finished)
+shows : (finished : List ℕ) (count place : ℕ)
+    → place < count
+    → place < length finished
+    → place < length (take count finished)
 shows [] count place below within = absurd (omega arith)
 shows (done ∷ finished) zero place below within = absurd (omega arith)
 shows (done ∷ finished) (suc count) zero below within = omega arith
-shows (done ∷ finished) (suc count) (suc place) below within = let less = shows finished count place (omega arith) (omega arith) in omega arith
+shows (done ∷ finished) (suc count) (suc place) below within =
+    let less = shows finished count place (omega arith) (omega arith) in omega arith
 
-none_behind : (issued : ℕ) (finished : List ℕ) → busy_of issued finished ≡ None → position (is_behind issued) finished ≡ None
+none_behind : (issued : ℕ) (finished : List ℕ)
+    → busy_of issued finished ≡ None
+    → position (is_behind issued) finished ≡ None
 unfolding busy_of
 none_behind issued finished e = map_none (busy_at finished) (position (is_behind issued) finished) e
 
-pub has_room : (server : ServerIdentity) (hub : State) (finished : List ℕ) → busy_fault server hub finished ≡ None → HasRoom server hub finished
+pub has_room : (server : ServerIdentity) (hub : State) (finished : List ℕ)
+    → busy_fault server hub finished ≡ None
+    → HasRoom server hub finished
 has_room server hub finished e place done below at =
     let shown = take server.shards finished in
     let within = slice_get_within finished place done at in
-    let behind = none_first (is_behind hub.issued) shown (none_behind hub.issued shown (map_none _ (busy_of hub.issued shown) e)) place done (shows finished server.shards place below within) in
-    let same = get_or-take server.shards finished place done below ∙ get_or_from_slice_get finished place done done at in
+    let behind = none_first (is_behind hub.issued) shown
+    (none_behind hub.issued shown (map_none _ (busy_of hub.issued shown) e)) place done
+    (shows finished server.shards place below within) in
+    let same =
+    get_or-take server.shards finished place done below ∙ get_or_from_slice_get finished place done done at in
     let least = lt_false (get_or shown place done + WINDOW) (hub.issued + 1) behind in
     omega arith

@@ -31,7 +31,9 @@ few_changes : (counts : Counts) (ds : List Delta) → length (changes_told count
 few_changes counts [] = omega arith
 few_changes counts (d ∷ ds) = go (change_of counts d) (few_changes (counts_after counts d) ds)
   where
-    go : (o : Option Change) → length (changes_told (counts_after counts d) ds) ≤ length ds → length (option_to_list o ++ changes_told (counts_after counts d) ds) ≤ suc (length ds)
+    go : (o : Option Change)
+        → length (changes_told (counts_after counts d) ds) ≤ length ds
+        → length (option_to_list o ++ changes_told (counts_after counts d) ds) ≤ suc (length ds)
     go None few = omega (arith, few)
     go (Some c) few = omega (arith, few)
 
@@ -43,19 +45,27 @@ few_told h ds = go h.draining
     go true = omega arith
     go false = few_changes h.counts ds
 
-no_frames : (count number : ℕ) (changes : List Change) → frames_behind pipe_server count number changes (unknown_peer ∷ []) ≡ []
+no_frames : (count number : ℕ) (changes : List Change)
+    → frames_behind pipe_server count number changes (unknown_peer ∷ []) ≡ []
 no_frames count number [] = refl
 no_frames count number (c ∷ cs) = no_frames count (number + 1) cs
 
-still_alone : (h : hub.State) (ds : List Delta) → h.peers ≡ unknown_peer ∷ [] → (after_collect pipe_server h ds).peers ≡ unknown_peer ∷ []
+still_alone : (h : hub.State) (ds : List Delta)
+    → h.peers ≡ unknown_peer ∷ []
+    → (after_collect pipe_server h ds).peers ≡ unknown_peer ∷ []
 still_alone h ds alone =
     let n = count_of_changes h ds in
-    ap (λ (ps : List Peer). with_frames pipe_server (frames_behind pipe_server n h.changed (changes_of h ds) ps) 0 (map (without_slow n) ps)) alone
-    ∙ ap (λ fs. with_frames pipe_server fs 0 (map (without_slow n) (unknown_peer ∷ []))) (no_frames n h.changed (changes_of h ds))
+    ap (λ (ps : List Peer).
+    with_frames pipe_server (frames_behind pipe_server n h.changed (changes_of h ds) ps) 0 (map (without_slow n) ps))
+    alone
+    ∙ ap (λ fs. with_frames pipe_server fs 0 (map (without_slow n) (unknown_peer ∷ [])))
+    (no_frames n h.changed (changes_of h ds))
 
 -- ---- it is not refused
 
-few_enough : (s : Served) → IsServing s → s.node.hub.changed + count_of_changes s.node.hub (shard_in s).deltas ≤ MAX_COUNTER
+few_enough : (s : Served)
+    → IsServing s
+    → s.node.hub.changed + count_of_changes s.node.hub (shard_in s).deltas ≤ MAX_COUNTER
 few_enough s serving =
     let few = few_told s.node.hub (shard_in s).deltas in
     let all = serving.changed in
@@ -63,7 +73,10 @@ few_enough s serving =
     omega (arith, few, all, opened)
 
 pub collects : CountsStayOpen → (s : Served) → IsServing s → refusal s (Own (Collect 1)) ≡ None
-collects law s serving = is ∙ go (are_refused s.node.hub.counts ds) refl (nat_lt MAX_COUNTER (s.node.hub.changed + count_of_changes s.node.hub ds)) refl
+collects law s serving =
+    is
+    ∙ go (are_refused s.node.hub.counts ds) refl
+    (nat_lt MAX_COUNTER (s.node.hub.changed + count_of_changes s.node.hub ds)) refl
   where
     ds : List Delta
     ds = (shard_in s).deltas
@@ -77,22 +90,41 @@ collects law s serving = is ∙ go (are_refused s.node.hub.counts ds) refl (nat_
     refused : Bool → Bool → Option NodeFault
     refused b c = option_map Hub (cond b (Some BadInterest) (cond c (Some Spent) None))
 
-    go : (b : Bool) → are_refused s.node.hub.counts ds ≡ b → (c : Bool) → nat_lt MAX_COUNTER (s.node.hub.changed + count_of_changes s.node.hub ds) ≡ c → option_map Hub (collect_refusal s.node.hub ds) ≡ None
-    go true e c f = absurd ((law pipe_server serving.ran.0 s.node listed serving.ran.1).taken 1 (there ∙ ap (λ x. refused x (nat_lt MAX_COUNTER (s.node.hub.changed + count_of_changes s.node.hub ds))) e))
-    go false e true f = let above = lt_true MAX_COUNTER (s.node.hub.changed + count_of_changes s.node.hub ds) f in let few = few_enough s serving in absurd (omega (arith, above, few))
-    go false e false f = ap (λ x. refused x (nat_lt MAX_COUNTER (s.node.hub.changed + count_of_changes s.node.hub ds))) e ∙ ap (refused false) f
+    go : (b : Bool)
+        → are_refused s.node.hub.counts ds ≡ b
+        → (c : Bool)
+        → nat_lt MAX_COUNTER (s.node.hub.changed + count_of_changes s.node.hub ds) ≡ c
+        → option_map Hub (collect_refusal s.node.hub ds) ≡ None
+    go true e c f =
+        absurd ((law pipe_server serving.ran.0 s.node listed serving.ran.1).taken 1
+        (there ∙ ap (λ x. refused x (nat_lt MAX_COUNTER (s.node.hub.changed + count_of_changes s.node.hub ds))) e))
+    go false e true f =
+        let above = lt_true MAX_COUNTER (s.node.hub.changed + count_of_changes s.node.hub ds) f in
+        let few = few_enough s serving in
+        absurd (omega (arith, above, few))
+    go false e false f =
+        ap (λ x. refused x (nat_lt MAX_COUNTER (s.node.hub.changed + count_of_changes s.node.hub ds))) e
+        ∙ ap (refused false) f
 
 -- ---- the server behind it
 
-pub collect_steps : (old new : Served) → IsServing old → DoesStep old (Own (Collect 1)) false new → Steps old of_shard.Collect new
+pub collect_steps : (old new : Served)
+    → IsServing old
+    → DoesStep old (Own (Collect 1)) false new
+    → Steps old of_shard.Collect new
 collect_steps old new serving does = record {
   serving = record {
     server = does.server ∙ serving.server;
     line = lines ∙ ap (λ (l : ShardWithJobs). l ∷ []) (sym here);
     alone = ap (λ h. h.peers) hub_is ∙ still_alone old.node.hub ds serving.alone;
     published = ap (λ h. h.published) hub_is ∙ serving.published ∙ sym (ap (λ h. h.issued) hub_is);
-    changed = subst (λ (l : ShardWithJobs). new.node.hub.changed + (length l.shard.deltas + length l.shard.subs) ≤ 2 * l.shard.opened) (sym here)
-        (subst (λ n. n + (0 + length (shard_in old).subs) ≤ 2 * (shard_in old).opened) (sym (ap (λ h. h.changed) hub_is)) (let few = few_told old.node.hub ds in let all = serving.changed in omega (arith, few, all)));
+    changed =
+        subst (λ (l : ShardWithJobs).
+        new.node.hub.changed + (length l.shard.deltas + length l.shard.subs) ≤ 2 * l.shard.opened)
+        (sym here)
+        (subst (λ n. n + (0 + length (shard_in old).subs) ≤ 2 * (shard_in old).opened)
+        (sym (ap (λ h. h.changed) hub_is))
+        (let few = few_told old.node.hub ds in let all = serving.changed in omega (arith, few, all)));
     opened = subst (λ (l : ShardWithJobs). l.shard.opened ≤ MAX_SERIAL) (sym here) serving.opened;
     ran = run_more old new (Own (Collect 1)) false serving.server serving.ran does;
   };
@@ -104,10 +136,18 @@ collect_steps old new serving does = record {
     ds = (shard_in old).deltas
 
     lines : new.node.lines ≡ line_after of_shard.Collect (line_in old) ∷ []
-    lines = ap (λ (a : Node). a.lines) does.step.after ∙ ap (set_line old.node.lines 0 (line_after of_shard.Collect)) (shard_there old serving) ∙ ap (λ (ls : List ShardWithJobs). set ls 0 (line_after of_shard.Collect (line_in old))) serving.line
+    lines =
+        ap (λ (a : Node). a.lines) does.step.after
+        ∙ ap (set_line old.node.lines 0 (line_after of_shard.Collect)) (shard_there old serving)
+        ∙ ap (λ (ls : List ShardWithJobs). set ls 0 (line_after of_shard.Collect (line_in old))) serving.line
 
     here : line_in new ≡ line_after of_shard.Collect (line_in old)
     here = ap first_line lines
 
     hub_is : new.node.hub ≡ after_collect pipe_server old.node.hub ds
-    hub_is = ap (λ (a : Node). a.hub) does.step.after ∙ ap (λ (server : ServerIdentity). after_collect server old.node.hub (deltas_at (shard_line old.node 1))) serving.server ∙ ap (λ (o : Option ShardWithJobs). after_collect pipe_server old.node.hub (deltas_at o)) (shard_there old serving)
+    hub_is =
+        ap (λ (a : Node). a.hub) does.step.after
+        ∙ ap (λ (server : ServerIdentity). after_collect server old.node.hub (deltas_at (shard_line old.node 1)))
+        serving.server
+        ∙ ap (λ (o : Option ShardWithJobs). after_collect pipe_server old.node.hub (deltas_at o))
+        (shard_there old serving)

@@ -18,12 +18,14 @@ abbrev told : List StreamItem → Output
 told items = asks_said (items_asks first_options items) at_first
 
 -- `+OK` comes before the message
-first_message : (said (codes "SUB foo 1\r\nPUB foo 5\r\nhello\r\n")).text ≡ codes "+OK\r\n+OK\r\nMSG foo 1 5\r\nhello\r\n"
+first_message :
+    (said (codes "SUB foo 1\r\nPUB foo 5\r\nhello\r\n")).text ≡ codes "+OK\r\n+OK\r\nMSG foo 1 5\r\nhello\r\n"
 unfolding asks_said reading_within first_cr_lf digits
 first_message = refl
 
 -- a doubled subscription gets one message
-doubled : (said (codes "SUB foo 1\r\nSUB foo 1\r\nPUB foo r 1\r\nx\r\n")).text ≡ codes "+OK\r\n+OK\r\n+OK\r\nMSG foo 1 r 1\r\nx\r\n"
+doubled : (said (codes "SUB foo 1\r\nSUB foo 1\r\nPUB foo r 1\r\nx\r\n")).text
+    ≡ codes "+OK\r\n+OK\r\n+OK\r\nMSG foo 1 r 1\r\nx\r\n"
 unfolding asks_said reading_within first_cr_lf digits
 doubled = refl
 
@@ -34,7 +36,8 @@ unfolding asks_said reading_within first_cr_lf digits
 two_of_three = refl
 
 -- one member of a group, by the turn
-one_of_two : (said (codes "SUB a.* q 1\r\nSUB a.b q 2\r\nPUB a.b 3\r\nhey\r\n")).text ≡ codes "+OK\r\n+OK\r\n+OK\r\nMSG a.b 2 3\r\nhey\r\n"
+one_of_two : (said (codes "SUB a.* q 1\r\nSUB a.b q 2\r\nPUB a.b 3\r\nhey\r\n")).text
+    ≡ codes "+OK\r\n+OK\r\n+OK\r\nMSG a.b 2 3\r\nhey\r\n"
 unfolding asks_said reading_within first_cr_lf digits
 one_of_two = refl
 
@@ -47,7 +50,8 @@ groups_in_order = refl
 -- ---- headers
 
 -- without a CONNECT the client takes none
-headers_off : (said (codes "SUB foo 1\r\nHPUB foo 12 14\r\nNATS/1.0\r\n\r\nhi\r\n")).text ≡ codes "+OK\r\n+OK\r\nMSG foo 1 2\r\nhi\r\n"
+headers_off : (said (codes "SUB foo 1\r\nHPUB foo 12 14\r\nNATS/1.0\r\n\r\nhi\r\n")).text
+    ≡ codes "+OK\r\n+OK\r\nMSG foo 1 2\r\nhi\r\n"
 unfolding asks_said reading_within first_cr_lf digits
 headers_off = refl
 
@@ -60,22 +64,27 @@ subscribed = asked (line.Sub (codes "foo") None (codes "1"))
 
 -- a publication with twelve bytes of headers, and one without
 abbrev headed : StreamItem
-headed = published (record { subject = codes "foo"; reply = Some (codes "r"); headers = Some 12; size = 14 }) (codes "NATS/1.0\r\n\r\nhi")
+headed =
+    published (record { subject = codes "foo"; reply = Some (codes "r"); headers = Some 12; size = 14 })
+    (codes "NATS/1.0\r\n\r\nhi")
 
 abbrev plain : StreamItem
 plain = published (record { subject = codes "foo"; reply = None; headers = None; size = 2 }) (codes "hi")
 
-headers_on : (told (connect true ∷ subscribed ∷ headed ∷ plain ∷ [])).text ≡ codes "HMSG foo 1 r 12 14\r\nNATS/1.0\r\n\r\nhi\r\nMSG foo 1 2\r\nhi\r\n"
+headers_on : (told (connect true ∷ subscribed ∷ headed ∷ plain ∷ [])).text
+    ≡ codes "HMSG foo 1 r 12 14\r\nNATS/1.0\r\n\r\nhi\r\nMSG foo 1 2\r\nhi\r\n"
 unfolding asks_said digits
 headers_on = refl
 
 -- the last CONNECT holds
-headers_off_again : (told (connect true ∷ subscribed ∷ connect false ∷ headed ∷ [])).text ≡ codes "MSG foo 1 r 2\r\nhi\r\n"
+headers_off_again :
+    (told (connect true ∷ subscribed ∷ connect false ∷ headed ∷ [])).text ≡ codes "MSG foo 1 r 2\r\nhi\r\n"
 unfolding asks_said digits
 headers_off_again = refl
 
 -- a maximum of one
-maximum : (said (codes "SUB foo 1\r\nUNSUB 1 1\r\nPUB foo 1\r\na\r\nPUB foo 1\r\nb\r\n")).text ≡ codes "+OK\r\n+OK\r\n+OK\r\nMSG foo 1 1\r\na\r\n+OK\r\n"
+maximum : (said (codes "SUB foo 1\r\nUNSUB 1 1\r\nPUB foo 1\r\na\r\nPUB foo 1\r\nb\r\n")).text
+    ≡ codes "+OK\r\n+OK\r\n+OK\r\nMSG foo 1 1\r\na\r\n+OK\r\n"
 unfolding asks_said reading_within first_cr_lf digits
 maximum = refl
 

@@ -44,16 +44,26 @@ record Answering (event : of_shard.Event) (answer : of_shard.Answer) (o : Option
   is : o ≡ Some line
   answered : answer ≡ shard_answer line.shard event
 
-answering : (event : of_shard.Event) (answer : of_shard.Answer) (o : Option ShardWithJobs) → Some answer ≡ answer_at (Some event) o → Answering event answer o
+answering : (event : of_shard.Event) (answer : of_shard.Answer) (o : Option ShardWithJobs)
+    → Some answer ≡ answer_at (Some event) o
+    → Answering event answer o
 answering event answer None e = absurd (none-some answer (sym e))
-answering event answer (Some line) e = record { line = line; is = refl; answered = same_Some answer (shard_answer line.shard event) e }
+answering event answer (Some line) e = record {
+  line = line;
+  is = refl;
+  answered = same_Some answer (shard_answer line.shard event) e;
+}
 
 -- what it put and shut is what its event does
-conn_does : (old new : Served) (conn : ℕ) (event : ConnEvent) (answer : of_shard.Answer) (entries : List Placed) (shut : List ℕ)
-    → ((line : ShardWithJobs) → answer ≡ shard_answer line.shard (conn_event conn event) → entries ≡ put_by line.shard (conn_event conn event))
-    → ((line : ShardWithJobs) → answer ≡ shard_answer line.shard (conn_event conn event) → shut ≡ shut_by line.shard (conn_event conn event))
+conn_does : (old new : Served) (conn : ℕ) (event : ConnEvent) (answer : of_shard.Answer) (entries : List Placed)
+    (shut : List ℕ)
+    → ((line : ShardWithJobs) → answer ≡ shard_answer line.shard (conn_event conn event)
+    → entries ≡ put_by line.shard (conn_event conn event))
+    → ((line : ShardWithJobs) → answer ≡ shard_answer line.shard (conn_event conn event)
+    → shut ≡ shut_by line.shard (conn_event conn event))
     → ConnStep old conn event answer new
-    → Does old (Own (OfConn conn event)) (record { answer = told_of_shard answer; entries = entries; frames = []; shut = shut; ended = ended_of answer }) new
+    → Does old (Own (OfConn conn event))
+    (record { answer = told_of_shard answer; entries = entries; frames = []; shut = shut; ended = ended_of answer }) new
 conn_does old new conn event answer entries shut puts shuts d =
     let e = conn_event conn event in
     let p = answering e answer (conn_line old.server old.node conn) d.answered in
@@ -68,17 +78,41 @@ conn_does old new conn event answer entries shut puts shuts d =
       told = λ k. record { answer = told k; entries = put k; frames = []; shut = closed k; ended = ended k };
     }
 
-pub unsubscribe_does : (old new : Served) (conn : ℕ) (sid : List ℕ) (max : Option ℕ) (ended : List SubId) → ConnStep old conn (Unsubscribe sid max) (of_shard.Unsubscribed ended) new → Does old (Own (OfConn conn (Unsubscribe sid max))) (record { answer = Nothing; entries = []; frames = []; shut = []; ended = ended }) new
-unsubscribe_does old new conn sid max ended d = conn_does old new conn (Unsubscribe sid max) (of_shard.Unsubscribed ended) [] [] (λ line e. refl) (λ line e. refl) d
+pub unsubscribe_does : (old new : Served) (conn : ℕ) (sid : List ℕ) (max : Option ℕ) (ended : List SubId)
+    → ConnStep old conn (Unsubscribe sid max) (of_shard.Unsubscribed ended) new
+    → Does old (Own (OfConn conn (Unsubscribe sid max)))
+    (record { answer = Nothing; entries = []; frames = []; shut = []; ended = ended }) new
+unsubscribe_does old new conn sid max ended d =
+    conn_does old new conn (Unsubscribe sid max) (of_shard.Unsubscribed ended) [] [] (λ line e. refl) (λ line e. refl) d
 
-pub set_headers_does : (old new : Served) (conn : ℕ) (on : Bool) → ConnStep old conn (SetHeaders on) of_shard.HeadersSet new → Does old (Own (OfConn conn (SetHeaders on))) (record { answer = Nothing; entries = []; frames = []; shut = []; ended = [] }) new
-set_headers_does old new conn on d = conn_does old new conn (SetHeaders on) of_shard.HeadersSet [] [] (λ line e. refl) (λ line e. refl) d
+pub set_headers_does : (old new : Served) (conn : ℕ) (on : Bool)
+    → ConnStep old conn (SetHeaders on) of_shard.HeadersSet new
+    → Does old (Own (OfConn conn (SetHeaders on)))
+    (record { answer = Nothing; entries = []; frames = []; shut = []; ended = [] }) new
+set_headers_does old new conn on d =
+    conn_does old new conn (SetHeaders on) of_shard.HeadersSet [] [] (λ line e. refl) (λ line e. refl) d
 
-pub detach_does : (old new : Served) (conn : ℕ) (ended : List SubId) → ConnStep old conn Detach (of_shard.Detached ended) new → Does old (Own (OfConn conn Detach)) (record { answer = Nothing; entries = []; frames = []; shut = []; ended = ended }) new
-detach_does old new conn ended d = conn_does old new conn Detach (of_shard.Detached ended) [] [] (λ line e. refl) (λ line e. refl) d
+pub detach_does : (old new : Served) (conn : ℕ) (ended : List SubId)
+    → ConnStep old conn Detach (of_shard.Detached ended) new
+    → Does old (Own (OfConn conn Detach))
+    (record { answer = Nothing; entries = []; frames = []; shut = []; ended = ended }) new
+detach_does old new conn ended d =
+    conn_does old new conn Detach (of_shard.Detached ended) [] [] (λ line e. refl) (λ line e. refl) d
 
-pub shut_does : (old new : Served) (conn : ℕ) (text : ErrText) (ended : List SubId) → ConnStep old conn (Shut text) (of_shard.WasShut ended) new → Does old (Own (OfConn conn (Shut text))) (record { answer = Nothing; entries = put_line (err_line text) conn ∷ []; frames = []; shut = conn ∷ []; ended = ended }) new
-shut_does old new conn text ended d = conn_does old new conn (Shut text) (of_shard.WasShut ended) (put_line (err_line text) conn ∷ []) (conn ∷ []) (λ line e. refl) (λ line e. refl) d
+pub shut_does : (old new : Served) (conn : ℕ) (text : ErrText) (ended : List SubId)
+    → ConnStep old conn (Shut text) (of_shard.WasShut ended) new
+    → Does old (Own (OfConn conn (Shut text)))
+    (record {
+      answer = Nothing;
+      entries = put_line (err_line text) conn ∷ [];
+      frames = [];
+      shut = conn ∷ [];
+      ended = ended;
+    })
+    new
+shut_does old new conn text ended d =
+    conn_does old new conn (Shut text) (of_shard.WasShut ended) (put_line (err_line text) conn ∷ []) (conn ∷ [])
+    (λ line e. refl) (λ line e. refl) d
 
 -- of a reply, by whether it fits
 
@@ -101,42 +135,102 @@ was_shut (of_shard.Dropped job) = false
 was_shut of_shard.Drains = false
 was_shut (of_shard.Collected deltas) = false
 
-chosen : {X : Type 0} (shut fits : Bool) (last : X) (line : X) → shut ≡ not fits → cond shut last line ≡ cond fits line last
+chosen : {X : Type 0} (shut fits : Bool) (last : X) (line : X)
+    → shut ≡ not fits
+    → cond shut last line ≡ cond fits line last
 chosen shut true last line e = ap (λ b. cond b last line) e
 chosen shut false last line e = ap (λ b. cond b last line) e
 
-pub reply_shut : (old new : Served) (conn : ℕ) (frame : ReplyFrame) (shut : Bool) (ended : List SubId) → shut ≡ true → ConnStep old conn (Reply frame) (of_shard.Replied shut ended) new
-    → Does old (Own (OfConn conn (Reply frame))) (record { answer = Nothing; entries = put_line slow_consumer conn ∷ []; frames = []; shut = conn ∷ []; ended = ended }) new
-reply_shut old new conn frame shut ended is d = conn_does old new conn (Reply frame) (of_shard.Replied shut ended) (put_line slow_consumer conn ∷ []) (conn ∷ [])
-    (λ line e. chosen true (answer_fits line.shard conn (reply_line frame)) (put_line slow_consumer conn ∷ []) (put_line (reply_line frame) conn ∷ []) (sym is ∙ ap was_shut e))
-    (λ line e. chosen true (answer_fits line.shard conn (reply_line frame)) (conn ∷ []) [] (sym is ∙ ap was_shut e))
-    d
+pub reply_shut : (old new : Served) (conn : ℕ) (frame : ReplyFrame) (shut : Bool) (ended : List SubId)
+    → shut ≡ true
+    → ConnStep old conn (Reply frame) (of_shard.Replied shut ended) new
+    → Does old (Own (OfConn conn (Reply frame)))
+    (record {
+      answer = Nothing;
+      entries = put_line slow_consumer conn ∷ [];
+      frames = [];
+      shut = conn ∷ [];
+      ended = ended;
+    })
+    new
+reply_shut old new conn frame shut ended is d =
+    conn_does old new conn (Reply frame) (of_shard.Replied shut ended) (put_line slow_consumer conn ∷ []) (conn ∷ [])
+    (λ line e.
+    chosen true (answer_fits line.shard conn (reply_line frame)) (put_line slow_consumer conn ∷ [])
+    (put_line (reply_line frame) conn ∷ []) (sym is ∙ ap was_shut e))
+    (λ line e. chosen true (answer_fits line.shard conn (reply_line frame)) (conn ∷ []) [] (sym is ∙ ap was_shut e)) d
 
-pub reply_put : (old new : Served) (conn : ℕ) (frame : ReplyFrame) (shut : Bool) (ended : List SubId) → shut ≡ false → ConnStep old conn (Reply frame) (of_shard.Replied shut ended) new
-    → Does old (Own (OfConn conn (Reply frame))) (record { answer = Nothing; entries = put_line (reply_line frame) conn ∷ []; frames = []; shut = []; ended = ended }) new
-reply_put old new conn frame shut ended is d = conn_does old new conn (Reply frame) (of_shard.Replied shut ended) (put_line (reply_line frame) conn ∷ []) []
-    (λ line e. chosen false (answer_fits line.shard conn (reply_line frame)) (put_line slow_consumer conn ∷ []) (put_line (reply_line frame) conn ∷ []) (sym is ∙ ap was_shut e))
-    (λ line e. chosen false (answer_fits line.shard conn (reply_line frame)) (conn ∷ []) [] (sym is ∙ ap was_shut e))
-    d
+pub reply_put : (old new : Served) (conn : ℕ) (frame : ReplyFrame) (shut : Bool) (ended : List SubId)
+    → shut ≡ false
+    → ConnStep old conn (Reply frame) (of_shard.Replied shut ended) new
+    → Does old (Own (OfConn conn (Reply frame)))
+    (record {
+      answer = Nothing;
+      entries = put_line (reply_line frame) conn ∷ [];
+      frames = [];
+      shut = [];
+      ended = ended;
+    })
+    new
+reply_put old new conn frame shut ended is d =
+    conn_does old new conn (Reply frame) (of_shard.Replied shut ended) (put_line (reply_line frame) conn ∷ []) []
+    (λ line e.
+    chosen false (answer_fits line.shard conn (reply_line frame)) (put_line slow_consumer conn ∷ [])
+    (put_line (reply_line frame) conn ∷ []) (sym is ∙ ap was_shut e))
+    (λ line e. chosen false (answer_fits line.shard conn (reply_line frame)) (conn ∷ []) [] (sym is ∙ ap was_shut e)) d
 
-pub reply_does : (old new : Served) (conn : ℕ) (frame : ReplyFrame) (puts : ReplyPuts) (shut : Bool) (ended : List SubId) → puts.answer.items ≡ put_line (reply_line frame) conn ∷ [] → puts.last.items ≡ put_line slow_consumer conn ∷ [] → puts.shut.items ≡ conn ∷ [] → ConnStep old conn (Reply frame) (of_shard.Replied shut ended) new
+pub reply_does : (old new : Served) (conn : ℕ) (frame : ReplyFrame) (puts : ReplyPuts) (shut : Bool)
+    (ended : List SubId)
+    → puts.answer.items ≡ put_line (reply_line frame) conn ∷ []
+    → puts.last.items ≡ put_line slow_consumer conn ∷ []
+    → puts.shut.items ≡ conn ∷ []
+    → ConnStep old conn (Reply frame) (of_shard.Replied shut ended) new
     → Does old (Own (OfConn conn (Reply frame))) (reply_outcome puts shut ended) new
 reply_does old new conn frame puts true ended answer last over d =
-    let made : ◌≡◌ {A = Outcome} (record { answer = Nothing; entries = put_line slow_consumer conn ∷ []; frames = []; shut = conn ∷ []; ended = ended }) (reply_outcome puts true ended) = λ k. record { answer = Nothing; entries = sym last k; frames = []; shut = sym over k; ended = ended } in
-    subst (λ (o : Outcome). Does old (Own (OfConn conn (Reply frame))) o new) made (reply_shut old new conn frame true ended refl d)
+    let made : ◌≡◌ {A = Outcome}
+    (record {
+      answer = Nothing;
+      entries = put_line slow_consumer conn ∷ [];
+      frames = [];
+      shut = conn ∷ [];
+      ended = ended;
+    })
+    (reply_outcome puts true ended) =
+    λ k. record { answer = Nothing; entries = sym last k; frames = []; shut = sym over k; ended = ended } in
+    subst (λ (o : Outcome). Does old (Own (OfConn conn (Reply frame))) o new) made
+    (reply_shut old new conn frame true ended refl d)
 reply_does old new conn frame puts false ended answer last over d =
-    let made : ◌≡◌ {A = Outcome} (record { answer = Nothing; entries = put_line (reply_line frame) conn ∷ []; frames = []; shut = []; ended = ended }) (reply_outcome puts false ended) = λ k. record { answer = Nothing; entries = sym answer k; frames = []; shut = []; ended = ended } in
-    subst (λ (o : Outcome). Does old (Own (OfConn conn (Reply frame))) o new) made (reply_put old new conn frame false ended refl d)
+    let made : ◌≡◌ {A = Outcome}
+    (record {
+      answer = Nothing;
+      entries = put_line (reply_line frame) conn ∷ [];
+      frames = [];
+      shut = [];
+      ended = ended;
+    })
+    (reply_outcome puts false ended) =
+    λ k. record { answer = Nothing; entries = sym answer k; frames = []; shut = []; ended = ended } in
+    subst (λ (o : Outcome). Does old (Own (OfConn conn (Reply frame))) o new) made
+    (reply_put old new conn frame false ended refl d)
 
 -- ---- shards
 
-begin_put : (place : ℕ) (line : ShardWithJobs) (job : Job) (waits : Option Job) (begun : Begun) → waits ≡ Some job → IsTold true line.shard job begun → begun.put.items ≡ put_at (part_if place line (begin_of waits))
+begin_put : (place : ℕ) (line : ShardWithJobs) (job : Job) (waits : Option Job) (begun : Begun)
+    → waits ≡ Some job
+    → IsTold true line.shard job begun
+    → begun.put.items ≡ put_at (part_if place line (begin_of waits))
 begin_put place line job waits begun is d = d.put ∙ sym (ap (λ o. put_at (part_if place line (begin_of o))) is)
 
-begin_shut : (place : ℕ) (line : ShardWithJobs) (job : Job) (waits : Option Job) (begun : Begun) → waits ≡ Some job → IsTold true line.shard job begun → begun.closed.items ≡ shut_at (part_if place line (begin_of waits))
+begin_shut : (place : ℕ) (line : ShardWithJobs) (job : Job) (waits : Option Job) (begun : Begun)
+    → waits ≡ Some job
+    → IsTold true line.shard job begun
+    → begun.closed.items ≡ shut_at (part_if place line (begin_of waits))
 begin_shut place line job waits begun is d = d.closed ∙ sym (ap (λ o. shut_at (part_if place line (begin_of o))) is)
 
-begin_ended : (place : ℕ) (line : ShardWithJobs) (job : Job) (waits : Option Job) (begun : Begun) → waits ≡ Some job → IsTold true line.shard job begun → begun.ended.items ≡ ended_at (part_if place line (begin_of waits))
+begin_ended : (place : ℕ) (line : ShardWithJobs) (job : Job) (waits : Option Job) (begun : Begun)
+    → waits ≡ Some job
+    → IsTold true line.shard job begun
+    → begun.ended.items ≡ ended_at (part_if place line (begin_of waits))
 begin_ended place line job waits begun is d = d.ended ∙ sym (ap (λ o. ended_at (part_if place line (begin_of o))) is)
 
 -- what it put and closed, of a line
@@ -145,7 +239,9 @@ record Putting (place : ℕ) (entries : List Placed) (shut : List ℕ) (ended : 
   closed : shut ≡ shut_at o
   over : ended ≡ ended_at o
 
-begin_at : (place : ℕ) (o : Option ShardWithJobs) (begun : Begun) → IsToldAt true o begun → Putting place begun.put.items begun.closed.items begun.ended.items (part_at place (work_event Begin false) o)
+begin_at : (place : ℕ) (o : Option ShardWithJobs) (begun : Begun)
+    → IsToldAt true o begun
+    → Putting place begun.put.items begun.closed.items begun.ended.items (part_at place (work_event Begin false) o)
 begin_at place None begun e = absurd e
 begin_at place (Some line) begun e = record {
   put = begin_put place line e.0 (first_of line.waiting) begun e.1 e.2;
@@ -153,12 +249,25 @@ begin_at place (Some line) begun e = record {
   over = begin_ended place line e.0 (first_of line.waiting) begun e.1 e.2;
 }
 
-pub begin_does : (old new : Served) (shard : ℕ) (begun : Begun) → BeginStep true old shard begun new
-    → Does old (Own (AtShard shard Begin)) (record { answer = Began begun.given (length begun.closed.items); entries = begun.put.items; frames = []; shut = begun.closed.items; ended = begun.ended.items }) new
+pub begin_does : (old new : Served) (shard : ℕ) (begun : Begun)
+    → BeginStep true old shard begun new
+    → Does old (Own (AtShard shard Begin))
+    (record {
+      answer = Began begun.given (length begun.closed.items);
+      entries = begun.put.items;
+      frames = [];
+      shut = begun.closed.items;
+      ended = begun.ended.items;
+    })
+    new
 begin_does old new shard begun d =
     let p = begin_at (shard - 1) (shard_line old.node shard) begun d.told in
     let told = told_begin true (shard_line old.node shard) begun d.told in
-    record { won = false; step = d.step; told = λ k. record { answer = told k; entries = p.put k; frames = []; shut = p.closed k; ended = p.over k } }
+    record {
+      won = false;
+      step = d.step;
+      told = λ k. record { answer = told k; entries = p.put k; frames = []; shut = p.closed k; ended = p.over k };
+    }
 
 -- a claim
 
@@ -181,28 +290,38 @@ placed_of (of_shard.Dropped job) = []
 placed_of of_shard.Drains = []
 placed_of (of_shard.Collected deltas) = []
 
-claim_put : (s : State) (hand : Option Job) (sub : Option Subscription) (won : Bool) → placed_of (claim_answer s hand sub won) ≡ put_by_claim s hand sub won
+claim_put : (s : State) (hand : Option Job) (sub : Option Subscription) (won : Bool)
+    → placed_of (claim_answer s hand sub won) ≡ put_by_claim s hand sub won
 claim_put s None sub won = refl
 claim_put s (Some job) None won = refl
 claim_put s (Some job) (Some sub) true = refl
 claim_put s (Some job) (Some sub) false = refl
 
-claim_entries : (claimed : Claimed) (answer : of_shard.Answer) → IsClaimTold true claimed answer → entries_told claimed ≡ placed_of answer
+claim_entries : (claimed : Claimed) (answer : of_shard.Answer)
+    → IsClaimTold true claimed answer
+    → entries_told claimed ≡ placed_of answer
 claim_entries code.Nobody answer e = sym (ap placed_of e)
 claim_entries code.Lost answer e = sym (ap placed_of e)
 claim_entries (code.Won sub placed ended) answer e = ap option_to_list e.1 ∙ sym (ap placed_of e.2)
 
-claim_ended : (claimed : Claimed) (answer : of_shard.Answer) → IsClaimTold true claimed answer → ended_told claimed ≡ ended_of answer
+claim_ended : (claimed : Claimed) (answer : of_shard.Answer)
+    → IsClaimTold true claimed answer
+    → ended_told claimed ≡ ended_of answer
 claim_ended code.Nobody answer e = sym (ap ended_of e)
 claim_ended code.Lost answer e = sym (ap ended_of e)
 claim_ended (code.Won sub placed ended) answer e = sym (ap ended_of e.2)
 
-claim_at : (place index : ℕ) (o : Option ShardWithJobs) (claimed : Claimed) → IsClaimToldAt true claimed (work_answer (Claim index) (is_won claimed) o) → Putting place (entries_told claimed) [] (ended_told claimed) (part_at place (work_event (Claim index) (is_won claimed)) o)
+claim_at : (place index : ℕ) (o : Option ShardWithJobs) (claimed : Claimed)
+    → IsClaimToldAt true claimed (work_answer (Claim index) (is_won claimed) o)
+    → Putting place (entries_told claimed) [] (ended_told claimed)
+    (part_at place (work_event (Claim index) (is_won claimed)) o)
 claim_at place index None claimed e = absurd e
 claim_at place index (Some line) claimed e =
     let answer = shard_answer line.shard (of_shard.Claim index (is_won claimed)) in
     record {
-      put = claim_entries claimed answer e ∙ claim_put line.shard line.shard.hand (candidate_of line.shard line.shard.hand index) (is_won claimed);
+      put =
+          claim_entries claimed answer e
+          ∙ claim_put line.shard line.shard.hand (candidate_of line.shard line.shard.hand index) (is_won claimed);
       closed = refl;
       over = claim_ended claimed answer e;
     }
@@ -212,7 +331,11 @@ pub claim_does : (old new : Served) (shard index : ℕ) (claimed : Claimed) → 
 claim_does old new shard index claimed d =
     let p = claim_at (shard - 1) index (shard_line old.node shard) claimed d.told in
     let told = told_claim_at true claimed index (shard_line old.node shard) d.told in
-    record { won = is_won claimed; step = d.step; told = λ k. record { answer = told k; entries = p.put k; frames = []; shut = p.closed k; ended = p.over k } }
+    record {
+      won = is_won claimed;
+      step = d.step;
+      told = λ k. record { answer = told k; entries = p.put k; frames = []; shut = p.closed k; ended = p.over k };
+    }
 
 -- ---- where nothing is put and nothing closes
 
@@ -222,64 +345,122 @@ pub record Quiet (server : ServerIdentity) (a : Node) (event : NodeEvent) (won :
   pub over : [] ≡ ended_at (part_of server a event won)
 
 -- with these frames
-pub alone_does : (old new : Served) (event : NodeEvent) (answer : Answer) (frames : List RouteFrame) → ((won : Bool) → Quiet old.server old.node event won) → frames ≡ node_frames old.server old.node event → Answers old event answer new
+pub alone_does : (old new : Served) (event : NodeEvent) (answer : Answer) (frames : List RouteFrame)
+    → ((won : Bool) → Quiet old.server old.node event won)
+    → frames ≡ node_frames old.server old.node event
+    → Answers old event answer new
     → Does old event (record { answer = answer; entries = []; frames = frames; shut = []; ended = [] }) new
 alone_does old new event answer frames quiet sent d =
     let q = quiet d.won in
     let told = d.told in
-    record { won = d.won; step = d.step; told = λ k. record { answer = told k; entries = q.put k; frames = sent k; shut = q.closed k; ended = q.over k } }
+    record {
+      won = d.won;
+      step = d.step;
+      told = λ k. record { answer = told k; entries = q.put k; frames = sent k; shut = q.closed k; ended = q.over k };
+    }
 
 subscribe_ends : (s : State) (sub : Option Subscription) → [] ≡ ended_of (subscribe_answer s sub)
 subscribe_ends s None = refl
 subscribe_ends s (Some sub) = refl
 
-quiet_subscribe : (place conn : ℕ) (key : Key) (sid : List ℕ) (o : Option ShardWithJobs) → Putting place [] [] [] (part_at place (λ line. Some (of_shard.Subscribe conn key sid)) o)
+quiet_subscribe : (place conn : ℕ) (key : Key) (sid : List ℕ) (o : Option ShardWithJobs)
+    → Putting place [] [] [] (part_at place (λ line. Some (of_shard.Subscribe conn key sid)) o)
 quiet_subscribe place conn key sid None = record { put = refl; closed = refl; over = refl }
-quiet_subscribe place conn key sid (Some line) = record { put = refl; closed = refl; over = subscribe_ends line.shard (sub_called conn sid line.shard.subs) }
+quiet_subscribe place conn key sid (Some line) = record {
+  put = refl;
+  closed = refl;
+  over = subscribe_ends line.shard (sub_called conn sid line.shard.subs);
+}
 
-pub subscribe_does : (old new : Served) (conn : ℕ) (key : Key) (sid : List ℕ) (answer : Answer) → Answers old (Own (OfConn conn (Subscribe key sid))) answer new → Does old (Own (OfConn conn (Subscribe key sid))) (record { answer = answer; entries = []; frames = []; shut = []; ended = [] }) new
+pub subscribe_does : (old new : Served) (conn : ℕ) (key : Key) (sid : List ℕ) (answer : Answer)
+    → Answers old (Own (OfConn conn (Subscribe key sid))) answer new
+    → Does old (Own (OfConn conn (Subscribe key sid)))
+    (record { answer = answer; entries = []; frames = []; shut = []; ended = [] }) new
 subscribe_does old new conn key sid answer d =
     let q = quiet_subscribe (conn_place old.server conn) conn key sid (conn_line old.server old.node conn) in
-    alone_does old new (Own (OfConn conn (Subscribe key sid))) answer [] (λ won. record { put = q.put; closed = q.closed; over = q.over }) refl d
+    alone_does old new (Own (OfConn conn (Subscribe key sid))) answer []
+    (λ won. record { put = q.put; closed = q.closed; over = q.over }) refl d
 
-quiet_take : (place conn count : ℕ) (o : Option ShardWithJobs) → Putting place [] [] [] (part_at place (λ line. Some (of_shard.Take conn count)) o)
+quiet_take : (place conn count : ℕ) (o : Option ShardWithJobs)
+    → Putting place [] [] [] (part_at place (λ line. Some (of_shard.Take conn count)) o)
 quiet_take place conn count None = record { put = refl; closed = refl; over = refl }
 quiet_take place conn count (Some line) = record { put = refl; closed = refl; over = refl }
 
-pub take_does : (old new : Served) (conn count : ℕ) (answer : Answer) → Answers old (Own (OfConn conn (Take count))) answer new → Does old (Own (OfConn conn (Take count))) (record { answer = answer; entries = []; frames = []; shut = []; ended = [] }) new
+pub take_does : (old new : Served) (conn count : ℕ) (answer : Answer)
+    → Answers old (Own (OfConn conn (Take count))) answer new
+    → Does old (Own (OfConn conn (Take count)))
+    (record { answer = answer; entries = []; frames = []; shut = []; ended = [] }) new
 take_does old new conn count answer d =
     let q = quiet_take (conn_place old.server conn) conn count (conn_line old.server old.node conn) in
-    alone_does old new (Own (OfConn conn (Take count))) answer [] (λ won. record { put = q.put; closed = q.closed; over = q.over }) refl d
+    alone_does old new (Own (OfConn conn (Take count))) answer []
+    (λ won. record { put = q.put; closed = q.closed; over = q.over }) refl d
 
-quiet_attach : (place : ℕ) (won : Bool) (o : Option ShardWithJobs) → Putting place [] [] [] (part_at place (work_event Attach won) o)
+quiet_attach : (place : ℕ) (won : Bool) (o : Option ShardWithJobs)
+    → Putting place [] [] [] (part_at place (work_event Attach won) o)
 quiet_attach place won None = record { put = refl; closed = refl; over = refl }
 quiet_attach place won (Some line) = record { put = refl; closed = refl; over = refl }
 
-pub attach_does : (old new : Served) (shard : ℕ) (answer : Answer) → Answers old (Own (AtShard shard Attach)) answer new → Does old (Own (AtShard shard Attach)) (record { answer = answer; entries = []; frames = []; shut = []; ended = [] }) new
-attach_does old new shard answer d = alone_does old new (Own (AtShard shard Attach)) answer [] (λ won. let q = quiet_attach (shard - 1) won (shard_line old.node shard) in record { put = q.put; closed = q.closed; over = q.over }) refl d
+pub attach_does : (old new : Served) (shard : ℕ) (answer : Answer)
+    → Answers old (Own (AtShard shard Attach)) answer new
+    → Does old (Own (AtShard shard Attach))
+    (record { answer = answer; entries = []; frames = []; shut = []; ended = [] }) new
+attach_does old new shard answer d =
+    alone_does old new (Own (AtShard shard Attach)) answer []
+    (λ won.
+    let q = quiet_attach (shard - 1) won (shard_line old.node shard) in
+    record { put = q.put; closed = q.closed; over = q.over })
+    refl d
 
-quiet_end : (place : ℕ) (won : Bool) (o : Option ShardWithJobs) → Putting place [] [] [] (part_at place (work_event End won) o)
+quiet_end : (place : ℕ) (won : Bool) (o : Option ShardWithJobs)
+    → Putting place [] [] [] (part_at place (work_event End won) o)
 quiet_end place won None = record { put = refl; closed = refl; over = refl }
 quiet_end place won (Some line) = record { put = refl; closed = refl; over = refl }
 
-pub end_does : (old new : Served) (shard : ℕ) (answer : Answer) → Answers old (Own (AtShard shard End)) answer new → Does old (Own (AtShard shard End)) (record { answer = answer; entries = []; frames = []; shut = []; ended = [] }) new
-end_does old new shard answer d = alone_does old new (Own (AtShard shard End)) answer [] (λ won. let q = quiet_end (shard - 1) won (shard_line old.node shard) in record { put = q.put; closed = q.closed; over = q.over }) refl d
+pub end_does : (old new : Served) (shard : ℕ) (answer : Answer)
+    → Answers old (Own (AtShard shard End)) answer new
+    → Does old (Own (AtShard shard End)) (record { answer = answer; entries = []; frames = []; shut = []; ended = [] })
+    new
+end_does old new shard answer d =
+    alone_does old new (Own (AtShard shard End)) answer []
+    (λ won.
+    let q = quiet_end (shard - 1) won (shard_line old.node shard) in
+    record { put = q.put; closed = q.closed; over = q.over })
+    refl d
 
-quiet_drop_of : (place : ℕ) (line : ShardWithJobs) (hand waits : Option Job) → Putting place [] [] [] (part_if place line (drop_of hand waits))
+quiet_drop_of : (place : ℕ) (line : ShardWithJobs) (hand waits : Option Job)
+    → Putting place [] [] [] (part_if place line (drop_of hand waits))
 quiet_drop_of place line None None = record { put = refl; closed = refl; over = refl }
 quiet_drop_of place line None (Some job) = record { put = refl; closed = refl; over = refl }
 quiet_drop_of place line (Some hand) waits = record { put = refl; closed = refl; over = refl }
 
-quiet_drop : (place : ℕ) (won : Bool) (o : Option ShardWithJobs) → Putting place [] [] [] (part_at place (work_event DropJob won) o)
+quiet_drop : (place : ℕ) (won : Bool) (o : Option ShardWithJobs)
+    → Putting place [] [] [] (part_at place (work_event DropJob won) o)
 quiet_drop place won None = record { put = refl; closed = refl; over = refl }
 quiet_drop place won (Some line) = quiet_drop_of place line line.shard.hand (first_of line.waiting)
 
-pub drop_does : (old new : Served) (shard : ℕ) (answer : Answer) → Answers old (Own (AtShard shard DropJob)) answer new → Does old (Own (AtShard shard DropJob)) (record { answer = answer; entries = []; frames = []; shut = []; ended = [] }) new
-drop_does old new shard answer d = alone_does old new (Own (AtShard shard DropJob)) answer [] (λ won. let q = quiet_drop (shard - 1) won (shard_line old.node shard) in record { put = q.put; closed = q.closed; over = q.over }) refl d
+pub drop_does : (old new : Served) (shard : ℕ) (answer : Answer)
+    → Answers old (Own (AtShard shard DropJob)) answer new
+    → Does old (Own (AtShard shard DropJob))
+    (record { answer = answer; entries = []; frames = []; shut = []; ended = [] }) new
+drop_does old new shard answer d =
+    alone_does old new (Own (AtShard shard DropJob)) answer []
+    (λ won.
+    let q = quiet_drop (shard - 1) won (shard_line old.node shard) in
+    record { put = q.put; closed = q.closed; over = q.over })
+    refl d
 
-quiet_drain : (place : ℕ) (won : Bool) (o : Option ShardWithJobs) → Putting place [] [] [] (part_at place (work_event DrainShard won) o)
+quiet_drain : (place : ℕ) (won : Bool) (o : Option ShardWithJobs)
+    → Putting place [] [] [] (part_at place (work_event DrainShard won) o)
 quiet_drain place won None = record { put = refl; closed = refl; over = refl }
 quiet_drain place won (Some line) = record { put = refl; closed = refl; over = refl }
 
-pub drain_shard_does : (old new : Served) (shard : ℕ) (answer : Answer) → Answers old (Own (AtShard shard DrainShard)) answer new → Does old (Own (AtShard shard DrainShard)) (record { answer = answer; entries = []; frames = []; shut = []; ended = [] }) new
-drain_shard_does old new shard answer d = alone_does old new (Own (AtShard shard DrainShard)) answer [] (λ won. let q = quiet_drain (shard - 1) won (shard_line old.node shard) in record { put = q.put; closed = q.closed; over = q.over }) refl d
+pub drain_shard_does : (old new : Served) (shard : ℕ) (answer : Answer)
+    → Answers old (Own (AtShard shard DrainShard)) answer new
+    → Does old (Own (AtShard shard DrainShard))
+    (record { answer = answer; entries = []; frames = []; shut = []; ended = [] }) new
+drain_shard_does old new shard answer d =
+    alone_does old new (Own (AtShard shard DrainShard)) answer []
+    (λ won.
+    let q = quiet_drain (shard - 1) won (shard_line old.node shard) in
+    record { put = q.put; closed = q.closed; over = q.over })
+    refl d

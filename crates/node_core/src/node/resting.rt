@@ -66,7 +66,10 @@ impl<T: SubTable, R: Race> Node<T, R> {
         publication: &Pub,
         word: u64,
     ) -> Result<PublishPlan, Failure<NodeFault>>
-        ensures { let p = publication_by conn publication.now word in IsAnswered (refusal self.now (Own (Publish p))) (λ plan. IsPlanOf self.now.server self.now.node.hub p plan.job plan.frames.items) ⊤ result }
+        ensures { let p = publication_by conn publication.now word in
+            IsAnswered (refusal self.now (Own (Publish p)))
+            (λ plan. IsPlanOf self.now.server self.now.node.hub p plan.job plan.frames.items) ⊤
+            result }
     {
         let count = self.lines.len();
         let finished = finished_by(&self.race, count as u64);

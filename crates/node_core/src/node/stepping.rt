@@ -14,21 +14,17 @@ ghost use Rattle.node_core.specs.Outcome.{Does, did_of, Answers, claim_outcome, 
 ghost use Rattle.node_core.specs.Served.{refusal};
 ghost use Rattle.node_core.specs.InCode.{answer_of, result_in_code, event_of, own_event_of};
 ghost use Rattle.hub_core.specs.Chosen.{publication_by};
-ghost use Rattle.node_law.specs.Steps.{node_frames, shard_line};
-ghost use Rattle.std.specs.Option.{option_copied};
-ghost use Rattle.hub_core.specs.Publishing.{next_id as id_of_next};
-ghost use Rattle.node_core.specs.Lent.{asked_of};
-ghost use Rattle.node_law.specs.Sound.{SoundNode};
+ghost use Rattle.node_law.specs.Steps.{node_frames};
 
 use super::{Node, of_hub};
 use crate::answers::Answer;
 use crate::did::Did;
-use crate::event_ref::{EventRef, lend};
+use crate::event_ref::lend;
 use crate::refused::{Refused, as_refused};
 use claim_race::Race;
 use client_frames::{ErrText, ReplyFrame, reply_line};
 use node_law::{ConnEvent, NodeEvent, NodeFault, OwnEvent, ShardWork};
-use node_parts::{Claimed, Received, ShardWithJobs, finished_by, place_of_shard};
+use node_parts::{Claimed, Received, finished_by, place_of_shard};
 use outbox::Entry;
 use route_session::SessionId;
 use route_values::{Numbered, RouteConnect, RouteFrame, RouteInfo};
@@ -36,7 +32,7 @@ use shard_core::{Closed, Placed, Subscribed};
 use std::alloc::{AllocError, Global};
 use std::collections::VecDeque;
 use sub_table::SubTable;
-use subj::{ConnId, Failure, Key, Pub, PubId, ServerIdentity, Sid, SubId};
+use subj::{ConnId, Failure, Key, Pub, Sid, SubId};
 
 /// A line for a connection, as the list of what is put.
 fn line_for(alloc: Global, conn: ConnId, line: &[u8]) -> Result<Vec<Placed>, AllocError>
@@ -77,7 +73,8 @@ fn answer_for(alloc: Global, conn: ConnId, frame: &ReplyFrame) -> Result<Vec<Pla
 
 /// What a reply may put, of both.
 fn reply_puts(alloc: Global, conn: ConnId, frame: &ReplyFrame) -> Result<ReplyPuts, AllocError>
-    ensures answer { IfOk result (λ puts. puts.answer.items ≡ put_line (line_of_reply frame.now) conn ∷ []) }
+    ensures answer { IfOk result (λ puts.
+        puts.answer.items ≡ put_line (line_of_reply frame.now) conn ∷ []) }
     ensures last { IfOk result (λ puts. puts.last.items ≡ put_line slow_consumer conn ∷ []) }
     ensures shut { IfOk result (λ puts. puts.shut.items ≡ conn ∷ []) }
 {
@@ -184,7 +181,10 @@ impl<T: SubTable, R: Race> Node<T, R> {
         max: Option<u64>,
     ) -> Result<Did, Failure<NodeFault>>
         requires { refusal self.old (Own (OfConn conn (Unsubscribe sid.now max))) ≡ None }
-        ensures { IsAnswered (refusal self.old (Own (OfConn conn (Unsubscribe sid.now max)))) (λ did. Does self.old (Own (OfConn conn (Unsubscribe sid.now max))) (did_of did) self.new) (self.new ≡ self.old) result }
+        ensures { IsAnswered (refusal self.old (Own (OfConn conn (Unsubscribe sid.now max))))
+            (λ did.
+            Does self.old (Own (OfConn conn (Unsubscribe sid.now max))) (did_of did) self.new)
+            (self.new ≡ self.old) result }
     {
         let alloc = self.alloc;
         let mut ended = Vec::with_capacity(alloc, 1)?;
@@ -200,7 +200,9 @@ impl<T: SubTable, R: Race> Node<T, R> {
     /// Puts an answer, or shuts the connection for want of room.
     fn did_reply(&mut self, conn: ConnId, frame: &ReplyFrame) -> Result<Did, Failure<NodeFault>>
         requires { refusal self.old (Own (OfConn conn (Reply frame.now))) ≡ None }
-        ensures { IsAnswered (refusal self.old (Own (OfConn conn (Reply frame.now)))) (λ did. Does self.old (Own (OfConn conn (Reply frame.now))) (did_of did) self.new) (self.new ≡ self.old) result }
+        ensures { IsAnswered (refusal self.old (Own (OfConn conn (Reply frame.now))))
+            (λ did. Does self.old (Own (OfConn conn (Reply frame.now))) (did_of did) self.new)
+            (self.new ≡ self.old) result }
     {
         let alloc = self.alloc;
         let puts = reply_puts(alloc, conn, frame)?;
@@ -211,7 +213,9 @@ impl<T: SubTable, R: Race> Node<T, R> {
     /// Sets whether a connection takes headers.
     #[tactic(auto, using(crate::proofs::Outcomes::Told::set_headers_does))]
     fn did_set_headers(&mut self, conn: ConnId, on: bool) -> Result<Did, Failure<NodeFault>>
-        ensures { IsAnswered (refusal self.old (Own (OfConn conn (SetHeaders on)))) (λ did. Does self.old (Own (OfConn conn (SetHeaders on))) (did_of did) self.new) (self.new ≡ self.old) result }
+        ensures { IsAnswered (refusal self.old (Own (OfConn conn (SetHeaders on))))
+            (λ did. Does self.old (Own (OfConn conn (SetHeaders on))) (did_of did) self.new)
+            (self.new ≡ self.old) result }
     {
         if let Err(fault) = self.set_headers(conn, on) {
             return Err(Failure::Refused(fault));
@@ -223,7 +227,9 @@ impl<T: SubTable, R: Race> Node<T, R> {
     #[tactic(auto, using(crate::proofs::Outcomes::Told::shut_does))]
     fn did_shut(&mut self, conn: ConnId, text: ErrText) -> Result<Did, Failure<NodeFault>>
         requires { refusal self.old (Own (OfConn conn (Shut text))) ≡ None }
-        ensures { IsAnswered (refusal self.old (Own (OfConn conn (Shut text)))) (λ did. Does self.old (Own (OfConn conn (Shut text))) (did_of did) self.new) (self.new ≡ self.old) result }
+        ensures { IsAnswered (refusal self.old (Own (OfConn conn (Shut text))))
+            (λ did. Does self.old (Own (OfConn conn (Shut text))) (did_of did) self.new)
+            (self.new ≡ self.old) result }
     {
         let alloc = self.alloc;
         let last = last_line(alloc, conn, text)?;
@@ -235,7 +241,9 @@ impl<T: SubTable, R: Race> Node<T, R> {
     /// A connection goes.
     #[tactic(auto, using(crate::proofs::Outcomes::Told::detach_does))]
     fn did_detach(&mut self, conn: ConnId) -> Result<Did, Failure<NodeFault>>
-        ensures { IsAnswered (refusal self.old (Own (OfConn conn Detach))) (λ did. Does self.old (Own (OfConn conn Detach)) (did_of did) self.new) (self.new ≡ self.old) result }
+        ensures { IsAnswered (refusal self.old (Own (OfConn conn Detach)))
+            (λ did. Does self.old (Own (OfConn conn Detach)) (did_of did) self.new)
+            (self.new ≡ self.old) result }
     {
         let alloc = self.alloc;
         let ended = self.detach(conn)?;
@@ -246,7 +254,9 @@ impl<T: SubTable, R: Race> Node<T, R> {
     /// The step of an event of a connection.
     #[tactic(auto, using(crate::proofs::Outcomes::Told::subscribe_does, crate::proofs::Outcomes::Told::take_does, crate::proofs::Outcomes::Answered::conn_answers))]
     fn did_of_conn(&mut self, conn: ConnId, event: &ConnEvent) -> Result<Did, Failure<NodeFault>>
-        ensures { IsAnswered (refusal self.old (Own (OfConn conn event.now))) (λ did. Does self.old (Own (OfConn conn event.now)) (did_of did) self.new) (self.new ≡ self.old) result }
+        ensures { IsAnswered (refusal self.old (Own (OfConn conn event.now)))
+            (λ did. Does self.old (Own (OfConn conn event.now)) (did_of did) self.new)
+            (self.new ≡ self.old) result }
     {
         if let Some(fault) = self.conn_fault(conn, event) {
             return Err(Failure::Refused(fault));
@@ -275,7 +285,9 @@ impl<T: SubTable, R: Race> Node<T, R> {
     /// Begins the first job that waits.
     #[tactic(auto, using(crate::proofs::Outcomes::Told::begin_does))]
     fn did_begin(&mut self, shard: u64) -> Result<Did, Failure<NodeFault>>
-        ensures { IsAnswered (refusal self.old (Own (AtShard shard Begin))) (λ did. Does self.old (Own (AtShard shard Begin)) (did_of did) self.new) (self.new ≡ self.old) result }
+        ensures { IsAnswered (refusal self.old (Own (AtShard shard Begin)))
+            (λ did. Does self.old (Own (AtShard shard Begin)) (did_of did) self.new)
+            (self.new ≡ self.old) result }
     {
         let alloc = self.alloc;
         let begun = self.begin(shard, true)?;
@@ -289,7 +301,9 @@ impl<T: SubTable, R: Race> Node<T, R> {
     /// Claims a queue name of the job in hand.
     fn did_claim(&mut self, shard: u64, index: u64) -> Result<Did, Failure<NodeFault>>
         requires { refusal self.old (Own (AtShard shard (Claim index))) ≡ None }
-        ensures { IsAnswered (refusal self.old (Own (AtShard shard (Claim index)))) (λ did. Does self.old (Own (AtShard shard (Claim index))) (did_of did) self.new) (self.new ≡ self.old) result }
+        ensures { IsAnswered (refusal self.old (Own (AtShard shard (Claim index))))
+            (λ did. Does self.old (Own (AtShard shard (Claim index))) (did_of did) self.new)
+            (self.new ≡ self.old) result }
     {
         let alloc = self.alloc;
         let puts = claim_puts(alloc)?;
@@ -300,7 +314,9 @@ impl<T: SubTable, R: Race> Node<T, R> {
     /// The step of what a shard is asked to do.
     #[tactic(auto, using(crate::proofs::Outcomes::Told::attach_does, crate::proofs::Outcomes::Told::end_does, crate::proofs::Outcomes::Told::drop_does, crate::proofs::Outcomes::Told::drain_shard_does))]
     fn did_of_shard(&mut self, shard: u64, work: ShardWork) -> Result<Did, Failure<NodeFault>>
-        ensures { IsAnswered (refusal self.old (Own (AtShard shard work))) (λ did. Does self.old (Own (AtShard shard work)) (did_of did) self.new) (self.new ≡ self.old) result }
+        ensures { IsAnswered (refusal self.old (Own (AtShard shard work)))
+            (λ did. Does self.old (Own (AtShard shard work)) (did_of did) self.new)
+            (self.new ≡ self.old) result }
     {
         if let Some(fault) = self.work_fault(shard, work) {
             return Err(Failure::Refused(fault));
@@ -336,7 +352,11 @@ impl<T: SubTable, R: Race> Node<T, R> {
         key: &Key,
         sid: &Sid,
     ) -> Result<Answer, Failure<NodeFault>>
-        ensures { IsAnswered (refusal self.old (Own (OfConn conn (Subscribe key.now sid.now)))) (λ answer. Answers self.old (Own (OfConn conn (Subscribe key.now sid.now))) (answer_of answer) self.new) (self.new ≡ self.old) result }
+        ensures { IsAnswered (refusal self.old (Own (OfConn conn (Subscribe key.now sid.now))))
+            (λ answer.
+            Answers self.old (Own (OfConn conn (Subscribe key.now sid.now))) (answer_of answer)
+            self.new)
+            (self.new ≡ self.old) result }
     {
         if let Some(fault) = self.subscribe_fault(conn, key, sid) {
             return Err(Failure::Refused(fault));
@@ -356,7 +376,9 @@ impl<T: SubTable, R: Race> Node<T, R> {
         conn: ConnId,
         event: &ConnEvent,
     ) -> Result<Answer, Failure<NodeFault>>
-        ensures { IsAnswered (refusal self.old (Own (OfConn conn event.now))) (λ answer. Answers self.old (Own (OfConn conn event.now)) (answer_of answer) self.new) (self.new ≡ self.old) result }
+        ensures { IsAnswered (refusal self.old (Own (OfConn conn event.now)))
+            (λ answer. Answers self.old (Own (OfConn conn event.now)) (answer_of answer) self.new)
+            (self.new ≡ self.old) result }
     {
         match event {
             ConnEvent::Subscribe { key, sid } => self.answer_of_subscribe(conn, key, sid),
@@ -390,7 +412,9 @@ impl<T: SubTable, R: Race> Node<T, R> {
     /// The step of what a shard is asked to do.
     #[tactic(auto, using(crate::proofs::Outcomes::Answered::work_answers, crate::proofs::Outcomes::Answered::claim_answers, crate::proofs::Outcomes::Answered::begin_answers, crate::proofs::Outcomes::Answered::drop_answers))]
     fn answer_of_shard(&mut self, shard: u64, work: ShardWork) -> Result<Answer, Failure<NodeFault>>
-        ensures { IsAnswered (refusal self.old (Own (AtShard shard work))) (λ answer. Answers self.old (Own (AtShard shard work)) (answer_of answer) self.new) (self.new ≡ self.old) result }
+        ensures { IsAnswered (refusal self.old (Own (AtShard shard work)))
+            (λ answer. Answers self.old (Own (AtShard shard work)) (answer_of answer) self.new)
+            (self.new ≡ self.old) result }
     {
         match work {
             ShardWork::Attach => {
@@ -426,7 +450,9 @@ impl<T: SubTable, R: Race> Node<T, R> {
     /// The step of an event of its own.
     #[tactic(auto, using(crate::proofs::Outcomes::Answered::publish_answers, crate::proofs::Outcomes::Answered::collect_answers, crate::proofs::Outcomes::Answered::drain_answers, crate::proofs::Outcomes::Answered::dial_answers, crate::proofs::Outcomes::Answered::accept_answers, crate::proofs::Outcomes::Answered::cut_answers, crate::proofs::Outcomes::Answered::frames_answers))]
     fn own_answer(&mut self, event: &OwnEvent) -> Result<Answer, Failure<NodeFault>>
-        ensures { IsAnswered (refusal self.old (Own (own_event_of event.now))) (λ answer. Answers self.old (Own (own_event_of event.now)) (answer_of answer) self.new) (self.new ≡ self.old) result }
+        ensures { IsAnswered (refusal self.old (Own (own_event_of event.now)))
+            (λ answer. Answers self.old (Own (own_event_of event.now)) (answer_of answer) self.new)
+            (self.new ≡ self.old) result }
     {
         match event {
             OwnEvent::OfConn { conn, event } => self.answer_of_conn(*conn, event),
@@ -478,7 +504,9 @@ impl<T: SubTable, R: Race> Node<T, R> {
         session: SessionId,
         info: &RouteInfo,
     ) -> Result<Answer, Failure<NodeFault>>
-        ensures { IsAnswered (refusal self.old (OnInfo session info.now)) (λ answer. Answers self.old (OnInfo session info.now) (answer_of answer) self.new) (self.new ≡ self.old) result }
+        ensures { IsAnswered (refusal self.old (OnInfo session info.now))
+            (λ answer. Answers self.old (OnInfo session info.now) (answer_of answer) self.new)
+            (self.new ≡ self.old) result }
     {
         let (kept, _) = self.info(session, info)?;
         Ok(Answer::Kept {
@@ -493,7 +521,9 @@ impl<T: SubTable, R: Race> Node<T, R> {
         session: SessionId,
         connect: &RouteConnect,
     ) -> Result<Answer, Failure<NodeFault>>
-        ensures { IsAnswered (refusal self.old (OnConnect session connect.now)) (λ answer. Answers self.old (OnConnect session connect.now) (answer_of answer) self.new) (self.new ≡ self.old) result }
+        ensures { IsAnswered (refusal self.old (OnConnect session connect.now))
+            (λ answer. Answers self.old (OnConnect session connect.now) (answer_of answer) self.new)
+            (self.new ≡ self.old) result }
     {
         let kept = self.connect(session, connect)?;
         Ok(Answer::Kept {
@@ -504,7 +534,9 @@ impl<T: SubTable, R: Race> Node<T, R> {
     /// The step of an event.
     #[tactic(auto, using(crate::proofs::Outcomes::Answered::receive_answers, crate::proofs::Outcomes::Answered::info_answers, crate::proofs::Outcomes::Answered::connect_answers))]
     fn answer(&mut self, event: &NodeEvent) -> Result<Answer, Failure<NodeFault>>
-        ensures { IsAnswered (refusal self.old (event_of event.now)) (λ answer. Answers self.old (event_of event.now) (answer_of answer) self.new) (self.new ≡ self.old) result }
+        ensures { IsAnswered (refusal self.old (event_of event.now))
+            (λ answer. Answers self.old (event_of event.now) (answer_of answer) self.new)
+            (self.new ≡ self.old) result }
     {
         match event {
             NodeEvent::Own(event) => self.own_answer(event),
@@ -523,7 +555,9 @@ impl<T: SubTable, R: Race> Node<T, R> {
     /// and of what closes. It is refused as the call for the event is, and by the first cause; want of
     /// memory comes only where there is no cause. Both leave all as it was.
     pub fn apply(&mut self, event: &NodeEvent) -> Result<Answer, Refused>
-        ensures { IsAnswered (refusal self.old (event_of event.now)) (λ answer. Answers self.old (event_of event.now) (answer_of answer) self.new) (self.new ≡ self.old) (result_in_code result) }
+        ensures { IsAnswered (refusal self.old (event_of event.now))
+            (λ answer. Answers self.old (event_of event.now) (answer_of answer) self.new)
+            (self.new ≡ self.old) (result_in_code result) }
     {
         as_refused(self.answer(event))
     }
@@ -569,7 +603,9 @@ impl<T: SubTable, R: Race> Node<T, R> {
         publication: &Pub,
         word: u64,
     ) -> Result<Vec<RouteFrame>, Failure<NodeFault>>
-        ensures { let e = Own (Publish (publication_by conn publication.now word)) in IsAnswered (refusal self.now e) (λ frames. frames.items ≡ node_frames self.now.server self.now.node e) ⊤ result }
+        ensures { let e = Own (Publish (publication_by conn publication.now word)) in
+            IsAnswered (refusal self.now e)
+            (λ frames. frames.items ≡ node_frames self.now.server self.now.node e) ⊤ result }
     {
         let count = self.lines.len();
         let finished = finished_by(&self.race, count as u64);
@@ -585,7 +621,9 @@ impl<T: SubTable, R: Race> Node<T, R> {
 
     /// The frames that a collect puts. It changes nothing.
     fn collect_frames(&self, shard: u64) -> Result<Vec<RouteFrame>, Failure<NodeFault>>
-        ensures { let e = Own (Collect shard) in IsAnswered (refusal self.now e) (λ frames. frames.items ≡ node_frames self.now.server self.now.node e) ⊤ result }
+        ensures { let e = Own (Collect shard) in
+            IsAnswered (refusal self.now e)
+            (λ frames. frames.items ≡ node_frames self.now.server self.now.node e) ⊤ result }
     {
         let Some(place) = place_of_shard(self.lines.len(), shard) else {
             return Err(Failure::Refused(NodeFault::NoShard));
@@ -603,7 +641,9 @@ impl<T: SubTable, R: Race> Node<T, R> {
 
     /// The frames that a drain puts. It changes nothing.
     fn drain_frames(&self) -> Result<Vec<RouteFrame>, Failure<NodeFault>>
-        ensures { let e = Own Drain in IsAnswered (refusal self.now e) (λ frames. frames.items ≡ node_frames self.now.server self.now.node e) ⊤ result }
+        ensures { let e = Own Drain in
+            IsAnswered (refusal self.now e)
+            (λ frames. frames.items ≡ node_frames self.now.server self.now.node e) ⊤ result }
     {
         let frames = match self.side.hub().frames_of_drain() {
             Ok(frames) => frames,
@@ -618,7 +658,8 @@ impl<T: SubTable, R: Race> Node<T, R> {
     /// Accepts a session, with the `INFO` to send.
     #[tactic(auto, using(crate::proofs::Outcomes::Sending::accept_does))]
     fn did_accept(&mut self) -> Result<Did, Failure<NodeFault>>
-        ensures { IsAnswered (refusal self.old (Own Accept)) (λ did. Does self.old (Own Accept) (did_of did) self.new) (self.new ≡ self.old) result }
+        ensures { IsAnswered (refusal self.old (Own Accept))
+            (λ did. Does self.old (Own Accept) (did_of did) self.new) (self.new ≡ self.old) result }
     {
         if let Some(fault) = self.side.sessions().accept_fault() {
             return Err(Failure::Refused(NodeFault::Session(fault)));
@@ -631,8 +672,10 @@ impl<T: SubTable, R: Race> Node<T, R> {
 
     /// The step of an event of its own.
     #[tactic(auto, using(crate::proofs::Outcomes::Sending::publish_does, crate::proofs::Outcomes::Sending::collect_does, crate::proofs::Outcomes::Sending::drain_does, crate::proofs::Outcomes::Sending::dial_does, crate::proofs::Outcomes::Sending::cut_does, crate::proofs::Outcomes::Sending::frames_does))]
-    fn own_did(&mut self, event: &OwnEvent) -> Result<Did, Failure<NodeFault>>
-        ensures { IsAnswered (refusal self.old (Own (own_event_of event.now))) (λ did. Does self.old (Own (own_event_of event.now)) (did_of did) self.new) (self.new ≡ self.old) result }
+    pub(super) fn own_did(&mut self, event: &OwnEvent) -> Result<Did, Failure<NodeFault>>
+        ensures { IsAnswered (refusal self.old (Own (own_event_of event.now)))
+            (λ did. Does self.old (Own (own_event_of event.now)) (did_of did) self.new)
+            (self.new ≡ self.old) result }
     {
         match event {
             OwnEvent::OfConn { conn, event } => self.did_of_conn(*conn, event),
@@ -666,8 +709,14 @@ impl<T: SubTable, R: Race> Node<T, R> {
 
     /// Completes a dialed session, with the `CONNECT` to send and the snapshot that waits.
     #[tactic(auto, using(crate::proofs::Outcomes::Sending::info_does))]
-    fn did_info(&mut self, session: SessionId, info: &RouteInfo) -> Result<Did, Failure<NodeFault>>
-        ensures { IsAnswered (refusal self.old (OnInfo session info.now)) (λ did. Does self.old (OnInfo session info.now) (did_of did) self.new) (self.new ≡ self.old) result }
+    pub(super) fn did_info(
+        &mut self,
+        session: SessionId,
+        info: &RouteInfo,
+    ) -> Result<Did, Failure<NodeFault>>
+        ensures { IsAnswered (refusal self.old (OnInfo session info.now))
+            (λ did. Does self.old (OnInfo session info.now) (did_of did) self.new)
+            (self.new ≡ self.old) result }
     {
         if let Some(fault) = self.info_fault(session, info) {
             return Err(Failure::Refused(fault));
@@ -684,12 +733,14 @@ impl<T: SubTable, R: Race> Node<T, R> {
 
     /// Completes an accepted session, with the snapshot that waits.
     #[tactic(auto, using(crate::proofs::Outcomes::Sending::connect_does))]
-    fn did_connect(
+    pub(super) fn did_connect(
         &mut self,
         session: SessionId,
         connect: &RouteConnect,
     ) -> Result<Did, Failure<NodeFault>>
-        ensures { IsAnswered (refusal self.old (OnConnect session connect.now)) (λ did. Does self.old (OnConnect session connect.now) (did_of did) self.new) (self.new ≡ self.old) result }
+        ensures { IsAnswered (refusal self.old (OnConnect session connect.now))
+            (λ did. Does self.old (OnConnect session connect.now) (did_of did) self.new)
+            (self.new ≡ self.old) result }
     {
         if let Some(fault) = self.connect_fault(session, connect) {
             return Err(Failure::Refused(fault));
@@ -710,76 +761,10 @@ impl<T: SubTable, R: Race> Node<T, R> {
     /// what closes; all copies are made before anything changes. It is refused as the call for the event is,
     /// and by the first cause; want of memory comes only where there is no cause. Both leave all as it was.
     pub fn step(&mut self, event: &NodeEvent) -> Result<Did, Refused>
-        ensures { IsAnswered (refusal self.old (event_of event.now)) (λ did. Does self.old (event_of event.now) (did_of did) self.new) (self.new ≡ self.old) (result_in_code result) }
+        ensures { IsAnswered (refusal self.old (event_of event.now))
+            (λ did. Does self.old (event_of event.now) (did_of did) self.new) (self.new ≡ self.old)
+            (result_in_code result) }
     {
         self.step_of(&lend(event))
-    }
-}
-
-impl<T: SubTable, R: Race> Node<T, R> {
-    /// Who it is.
-    pub fn server(&self) -> &ServerIdentity
-        ensures same { result.now ≡ self.now.server }
-        ensures sound { SoundNode self.now.server self.now.node }
-    {
-        self.side.hub().server()
-    }
-
-    /// The shard of this number with the jobs that wait for it, where there is such a shard.
-    pub fn line(&self, shard: u64) -> Option<&ShardWithJobs<T>>
-        ensures { option_copied result ≡ shard_line self.now.node shard }
-    {
-        let place = place_of_shard(self.lines.len(), shard)?;
-        Some(&self.lines[place])
-    }
-
-    /// What its next publication is called. Takes no memory.
-    pub fn next_id(&self) -> PubId
-        ensures { result ≡ id_of_next self.now.server self.now.node.hub }
-    {
-        self.side.hub().next_id()
-    }
-
-    /// Why it refuses the event: [`Node::fault`], where the parts of the event are lent.
-    pub fn fault_of(&self, asked: &EventRef<'_>) -> Option<NodeFault>
-        ensures { result ≡ refusal self.now (asked_of asked.now) }
-    {
-        match *asked {
-            EventRef::Own(event) => self.own_fault(event),
-            EventRef::Receive(frame) => self.receive_fault(frame),
-            EventRef::OnInfo(session, info) => self.info_fault(session, info),
-            EventRef::OnConnect(session, connect) => self.connect_fault(session, connect),
-        }
-    }
-
-    /// Takes a frame of a peer.
-    #[tactic(auto, using(crate::proofs::Outcomes::Answered::receive_answers, crate::proofs::Outcomes::Sending::receive_does))]
-    fn did_receive(&mut self, frame: &Numbered) -> Result<Did, Failure<NodeFault>>
-        ensures { IsAnswered (refusal self.old (Receive frame.now)) (λ did. Does self.old (Receive frame.now) (did_of did) self.new) (self.new ≡ self.old) result }
-    {
-        let answer = match self.receive(frame)? {
-            Received::Routed(turn) => Answer::Routed(turn),
-            Received::Heard(mark) => Answer::Heard(mark),
-        };
-        Ok(Did::answer_alone(self.alloc, answer))
-    }
-
-    /// The step of an event whose parts are lent.
-    fn did_asked(&mut self, asked: &EventRef<'_>) -> Result<Did, Failure<NodeFault>>
-        ensures { IsAnswered (refusal self.old (asked_of asked.now)) (λ did. Does self.old (asked_of asked.now) (did_of did) self.new) (self.new ≡ self.old) result }
-    {
-        match *asked {
-            EventRef::Own(event) => self.own_did(event),
-            EventRef::Receive(frame) => self.did_receive(frame),
-            EventRef::OnInfo(session, info) => self.did_info(session, info),
-            EventRef::OnConnect(session, connect) => self.did_connect(session, connect),
-        }
-    }
-
-    /// Makes the step of an event: [`Node::step`], where the parts of the event are lent.
-    pub fn step_of(&mut self, asked: &EventRef<'_>) -> Result<Did, Refused>
-        ensures { IsAnswered (refusal self.old (asked_of asked.now)) (λ did. Does self.old (asked_of asked.now) (did_of did) self.new) (self.new ≡ self.old) (result_in_code result) }
-    {
-        as_refused(self.did_asked(asked))
     }
 }

@@ -20,7 +20,7 @@ use Rattle.shard_core.specs.Limits.{HasLimits}
 use Rattle.shard_core.specs.Shards as shards
 use Rattle.shard_core.specs.ShardEvents as of_shard
 use Rattle.shard_core.specs.ShardSteps.{shard_refusal, shard_after}
-use Rattle.shard_core.proofs.Closings.Causes.{keeps}
+use Rattle.shard_core.proofs.Closings.Whys.{keeps}
 use Rattle.shard_core.proofs.Clients.Limits.{limits_kept, numbers_kept, first_numbers}
 use Rattle.node_law.specs.declared.faults.NodeFault.TheVariants.{NoShard, Shard}
 use Rattle.node_law.specs.AsLaw.{Part, part_if, part_at, part_of}

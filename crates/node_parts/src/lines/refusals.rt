@@ -47,7 +47,8 @@ impl<T: SubTable> ShardWithJobs<T> {
 
     /// Why a drop is refused.
     fn drop_fault(&self) -> Option<NodeFault>
-        ensures { result ≡ event_refusal self.now (drop_of self.now.shard.hand (first_of self.now.waiting)) }
+        ensures { result
+            ≡ event_refusal self.now (drop_of self.now.shard.hand (first_of self.now.waiting)) }
     {
         if self.shard.hand().is_some() || !self.waiting.is_empty() {
             return None;

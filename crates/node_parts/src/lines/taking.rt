@@ -27,7 +27,9 @@ impl<T: SubTable> ShardWithJobs<T> {
         count: usize,
         out: &mut Vec<u8>,
     ) -> Result<usize, Failure<NodeFault>>
-        ensures { IsAnswered (event_refusal self.old (Some (Take conn count))) (λ taken. LineTakesBytes self.old conn count taken out.old.items out.new.items self.new) ((self.new ≡ self.old) × (out.new.items ≡ out.old.items)) result }
+        ensures { IsAnswered (event_refusal self.old (Some (Take conn count)))
+            (λ taken. LineTakesBytes self.old conn count taken out.old.items out.new.items self.new)
+            ((self.new ≡ self.old) × (out.new.items ≡ out.old.items)) result }
     {
         shard_answer(self.shard.take_bytes(conn, count, out))
     }

@@ -5,4 +5,5 @@ use Rattle.pick.proofs.server_of_unit.Given as goal
 
 -- the rest has the unit that is left where the whole has the unit asked for
 abbrev pub invariant-loop-server : goal.invariant-loop-server
-invariant-loop-server l = slice_get (units (drop l.server-index l.servers)) l.left ≡ slice_get (units l.fn.servers) l.fn.unit
+invariant-loop-server l =
+    slice_get (units (drop l.server-index l.servers)) l.left ≡ slice_get (units l.fn.servers) l.fn.unit

@@ -6,4 +6,5 @@ use Rattle.outbox.specs.Bytes.{line_end}
 use Rattle.shard_core.specs.EntryBytes.{EntriesAreMessages}
 
 pub message_bytes : EntriesAreMessages
-message_bytes id sub mode content sid option = append_assoc (due_line content sid option) line_end (due_body content option ++ line_end)
+message_bytes id sub mode content sid option =
+    append_assoc (due_line content sid option) line_end (due_body content option ++ line_end)

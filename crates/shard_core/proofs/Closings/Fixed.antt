@@ -16,7 +16,8 @@ pub record Fixed (s t : State) : Type 0 where
   pub next : (t.next_conn ≡ s.next_conn) ⊎ (t.next_conn ≡ s.next_conn + s.shards)
   pub opened : s.opened ≤ t.opened
 
-same_fixed : (s : State) (clients : List Client) (subs : List Subscription) → Fixed s (record s { clients = clients; subs = subs })
+same_fixed : (s : State) (clients : List Client) (subs : List Subscription)
+    → Fixed s (record s { clients = clients; subs = subs })
 same_fixed s clients subs = record { shard = refl; shards = refl; next = inl refl; opened = omega arith }
 
 either_fixed : (s x y : State) → Fixed s x → Fixed s y → (b : Bool) → Fixed s (cond b x y)
@@ -34,8 +35,13 @@ fixed s (Unsubscribe conn sid max) = go (sub_called conn sid s.subs)
   where
     go : (o : Option Subscription) → Fixed s (after_unsubscribe s max o)
     go None = same_fixed s s.clients s.subs
-    go (Some u) = either_fixed s _ _ (record { shard = refl; shards = refl; next = inl refl; opened = omega arith }) (record { shard = refl; shards = refl; next = inl refl; opened = omega arith }) (ended_now max u)
-fixed s (Reply conn frame) = either_fixed s _ _ (record { shard = refl; shards = refl; next = inl refl; opened = omega arith }) (record { shard = refl; shards = refl; next = inl refl; opened = omega arith }) (answer_fits s conn (reply_line frame))
+    go (Some u) =
+        either_fixed s _ _ (record { shard = refl; shards = refl; next = inl refl; opened = omega arith })
+        (record { shard = refl; shards = refl; next = inl refl; opened = omega arith }) (ended_now max u)
+fixed s (Reply conn frame) =
+    either_fixed s _ _ (record { shard = refl; shards = refl; next = inl refl; opened = omega arith })
+    (record { shard = refl; shards = refl; next = inl refl; opened = omega arith })
+    (answer_fits s conn (reply_line frame))
 fixed s (SetHeaders conn on) = record { shard = refl; shards = refl; next = inl refl; opened = omega arith }
 fixed s (Shut conn text) = record { shard = refl; shards = refl; next = inl refl; opened = omega arith }
 fixed s (Detach conn) = record { shard = refl; shards = refl; next = inl refl; opened = omega arith }

@@ -27,7 +27,9 @@ impl<T: SubTable> Shard<T> {
         key: &Key,
         sid: &Sid,
     ) -> Result<Option<u64>, ShardFault>
-        ensures { IsDecided (shard_refusal self.now.state (Subscribe conn key.now sid.now)) (λ serial. Opens self.now.state (call conn sid.now self.now.state.subs) serial) ⊤ result }
+        ensures { IsDecided (shard_refusal self.now.state (Subscribe conn key.now sid.now))
+            (λ serial. Opens self.now.state (call conn sid.now self.now.state.subs) serial) ⊤
+            result }
     {
         if !self.conns.is_open(conn) {
             return Err(ShardFault::NoConn);

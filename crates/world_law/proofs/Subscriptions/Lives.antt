@@ -16,7 +16,9 @@ use Rattle.shard_core.specs.Closings.{id_of, serials_of}
 use Rattle.shard_core.specs.Shards.{State}
 use Rattle.shard_core.specs.ShardEvents as of_shard
 use Rattle.shard_core.specs.ShardSteps.{sub_called, new_sub, after_subscribe, shard_refusal, shard_after}
-use Rattle.shard_core.proofs.Closings.Causes.{one, subs_go_on, closes_by_cause}
+use Rattle.shard_core.proofs.Closings.Causes.{one}
+use Rattle.shard_core.proofs.Closings.Reasons.{subs_go_on}
+use Rattle.shard_core.proofs.Closings.Whys.{closes_by_cause}
 use Rattle.shard_core.proofs.Closings.Fixed.{fixed}
 use Rattle.node_law.specs.AsLaw.{Part, part_at, part_of}
 use Rattle.node_law.specs.EachShard.{ShardsStayHeld}

@@ -5,4 +5,6 @@ use Rattle.audit_log.proofs.Named.{name_means}
 use Rattle.audit_log.proofs.members.sid.Goals as goal
 
 pub returns : goal.returns
-returns c = name_means sid_fault Sid _ _ _ (c.in_ok-text.ensures ∙ ap Some (sym c.deref.ensures.value)) (c.valid.ensures _ _ c.read.ensures)
+returns c =
+    name_means sid_fault Sid _ _ _ (c.in_ok-text.ensures ∙ ap Some (sym c.deref.ensures.value))
+    (c.valid.ensures _ _ c.read.ensures)

@@ -6,4 +6,5 @@ use Rattle.cluster_world.specs.InCode.{items_of}
 use Rattle.cluster_world.proofs.nodes.frame_at.Given as goal
 
 abbrev pub invariant-loop-frames : goal.invariant-loop-frames
-invariant-loop-frames l = slice_get (flat_map items_of (drop l.frames-index l.sent)) l.left ≡ frame_at l.number (flat_map items_of l.sent)
+invariant-loop-frames l =
+    slice_get (flat_map items_of (drop l.frames-index l.sent)) l.left ≡ frame_at l.number (flat_map items_of l.sent)

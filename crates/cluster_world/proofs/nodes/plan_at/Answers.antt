@@ -11,5 +11,6 @@ use Rattle.cluster_world.proofs.nodes.plan_at.Goals as goal
 pub returns-in-Err-Refused : goal.returns-in-Err-Refused
 returns-in-Err-Refused g c =
     let p = publication_by c.args.conn c.args.publication.now c.args.word in
-    let cause = subst (IsRefused (refusal c.args.node.now (Own (Publish p))) ⊤) c.in-Err-Refused.field-0-is c.in-Err-Refused.ensures in
+    let cause = subst (IsRefused (refusal c.args.node.now (Own (Publish p))) ⊤) c.in-Err-Refused.field-0-is
+    c.in-Err-Refused.ensures in
     (fault.Node c.in-Err-Refused.field-0-0, ap (option_map fault.Node) cause.0)

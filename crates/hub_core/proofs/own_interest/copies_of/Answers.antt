@@ -5,4 +5,5 @@ use Rattle.hub_core.proofs.own_interest.copies_of.Goals as goal
 
 pub loop-place-preserved : goal.loop-place-preserved
 loop-place-preserved c =
-    copy_step c.args.names.now c.loop-place.copies.items c.push_copy.new.copies.items c.loop-place.place [] (option_copied c.get.result) (omega arith) c.get.ensures c.in_ok-push_copy.ensures c.loop-place.invariant
+    copy_step c.args.names.now c.loop-place.copies.items c.push_copy.new.copies.items c.loop-place.place []
+    (option_copied c.get.result) (omega arith) c.get.ensures c.in_ok-push_copy.ensures c.loop-place.invariant

@@ -11,12 +11,18 @@ use Rattle.hub_core.proofs.publishing.frames_for.Goals as goal
 
 pub loop-place-preserved : goal.loop-place-preserved
 loop-place-preserved c =
-    let out = c.args.out.now in let peers = c.args.peers.now in let i = c.loop-place.place in let peer = c.index-peers-place.result in
-    let queues_of : List ℕ → List (List ℕ) = λ server_name. chosen_for server_name (unwrap_or (option_copied out.names) []) out.servers.now in
+    let out = c.args.out.now in
+    let peers = c.args.peers.now in
+    let i = c.loop-place.place in
+    let peer = c.index-peers-place.result in
+    let queues_of : List ℕ → List (List ℕ) =
+    λ server_name. chosen_for server_name (unwrap_or (option_copied out.names) []) out.servers.now in
     let rest = sent_from out.server.now out.number out.message.now queues_of (i + 1) (drop (i + 1) peers) in
     ap (λ (l : List Frame). l ++ rest) c.in_ok-add_frame.ensures
-    ∙ frames_step out.server.now out.number out.message.now queues_of peers i peer (frame_at out.server.now out.number out.message.now (queues_of (name_of out.server.now i)) i peer) c.loop-place.frames.items
-    (sent_from out.server.now out.number out.message.now queues_of 0 peers) c.loop-place-test.true c.index-peers-place.is refl c.loop-place.invariant
+    ∙ frames_step out.server.now out.number out.message.now queues_of peers i peer
+    (frame_at out.server.now out.number out.message.now (queues_of (name_of out.server.now i)) i peer)
+    c.loop-place.frames.items (sent_from out.server.now out.number out.message.now queues_of 0 peers)
+    c.loop-place-test.true c.index-peers-place.is refl c.loop-place.invariant
 
 pub add_frame-requires-clause-seen : goal.add_frame-requires-clause-seen
 add_frame-requires-clause-seen c =

@@ -6,5 +6,9 @@ use Rattle.hub_core.proofs.publishing.frames_for.Given as goal
 
 abbrev pub invariant-loop-place : goal.invariant-loop-place
 invariant-loop-place l =
-    l.frames.items ++ sent_from l.out.server.now l.out.number l.out.message.now (λ server_name. chosen_for server_name (unwrap_or (option_copied l.out.names) []) l.out.servers.now) l.place (drop l.place l.peers)
-    ≡ sent_from l.out.server.now l.out.number l.out.message.now (λ server_name. chosen_for server_name (unwrap_or (option_copied l.out.names) []) l.out.servers.now) 0 l.peers
+    l.frames.items
+    ++ sent_from l.out.server.now l.out.number l.out.message.now
+    (λ server_name. chosen_for server_name (unwrap_or (option_copied l.out.names) []) l.out.servers.now) l.place
+    (drop l.place l.peers)
+    ≡ sent_from l.out.server.now l.out.number l.out.message.now
+    (λ server_name. chosen_for server_name (unwrap_or (option_copied l.out.names) []) l.out.servers.now) 0 l.peers

@@ -7,8 +7,16 @@ use Rattle.hub_core.proofs.publishing.names_of.Goals as goal
 
 pub loop-place-preserved : goal.loop-place-preserved
 loop-place-preserved c =
-    let names = c.args.names.now in let servers = c.args.servers.now in let i = c.loop-place.place in let name = option_copied c.get.result in
+    let names = c.args.names.now in
+    let servers = c.args.servers.now in
+    let i = c.loop-place.place in
+    let name = option_copied c.get.result in
     let rest = chosen_for c.args.server_name (drop (i + 1) names) (drop (i + 1) servers) in
     let put = if c.is_chosen-is_put.result then option_to_list name else [] in
-    let step = chosen_step c.args.server_name names servers i c.index-servers-place.result name c.is_chosen-is_put.result (omega arith) (omega arith) c.index-servers-place.is c.get.ensures c.is_chosen-is_put.ensures in
-    ap (λ (l : List (List ℕ)). l ++ rest) c.in_ok-push_copy.ensures ∙ append_assoc c.loop-place.chosen.items put rest ∙ ap (λ (l : List (List ℕ)). c.loop-place.chosen.items ++ l) (sym step) ∙ c.loop-place.invariant
+    let step = chosen_step c.args.server_name names servers i c.index-servers-place.result name
+    c.is_chosen-is_put.result (omega arith) (omega arith) c.index-servers-place.is c.get.ensures
+    c.is_chosen-is_put.ensures in
+    ap (λ (l : List (List ℕ)). l ++ rest) c.in_ok-push_copy.ensures
+    ∙ append_assoc c.loop-place.chosen.items put rest
+    ∙ ap (λ (l : List (List ℕ)). c.loop-place.chosen.items ++ l) (sym step)
+    ∙ c.loop-place.invariant

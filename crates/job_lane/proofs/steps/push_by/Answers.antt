@@ -8,7 +8,8 @@ push_as-requires-clause-rule g c =
     (pushes _ _ _ c.args.run may c.requires.turns, learns_end _ _ may)
 
 pub returns-clause-pushing : goal.returns-clause-pushing
-returns-clause-pushing g c = still_pushing c.push_as.result _ _ _ _ c.requires.pushing c.requires.some c.requires.turns c.push_as.ensures.rule
+returns-clause-pushing g c =
+    still_pushing c.push_as.result _ _ _ _ c.requires.pushing c.requires.some c.requires.turns c.push_as.ensures.rule
 
 pub returns-clause-err : goal.returns-clause-err
 returns-clause-err g c = came_back c.push_as.result _ _ _ _ c.requires.pushing c.requires.some c.push_as.ensures.rule

@@ -10,5 +10,7 @@ unreachable-requires g c =
 
 pub returns-in-Ok : goal.returns-in-Ok
 returns-in-Ok g c =
-    has_begun c.args.node.now c.begin.new.self c.in-Ok.begun (not c.is_empty.result) c.requires.serving c.requires.one c.in-Ok.ensures.1
-    (shut_told c.in-Ok.begun.closed.items c.in-Ok.begun.closed.len c.is_empty.result c.in-Ok.begun.closed.ok.0 c.is_empty.ensures)
+    has_begun c.args.node.now c.begin.new.self c.in-Ok.begun (not c.is_empty.result) c.requires.serving c.requires.one
+    c.in-Ok.ensures.1
+    (shut_told c.in-Ok.begun.closed.items c.in-Ok.begun.closed.len c.is_empty.result c.in-Ok.begun.closed.ok.0
+    c.is_empty.ensures)

@@ -3,4 +3,6 @@ use Rattle.mesh_pipe.proofs.Server.Calls.{by_conn}
 use Rattle.mesh_pipe.proofs.pipe_server.unsubscribe.Goals as goal
 
 pub returns : goal.returns
-returns g c = by_conn c.args.node.now c.unsubscribe.new.self c.args.conn (Unsubscribe c.args.sid.now c.args.max) _ c.requires.serving c.requires.conn c.in-Ok.ensures.1
+returns g c =
+    by_conn c.args.node.now c.unsubscribe.new.self c.args.conn (Unsubscribe c.args.sid.now c.args.max) _
+    c.requires.serving c.requires.conn c.in-Ok.ensures.1

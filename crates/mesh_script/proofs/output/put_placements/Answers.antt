@@ -12,7 +12,10 @@ returns-in_err-count-clause-text g c =
     let i = c.loop-placements.placements-index in
     let x = c.placements-item.result in
     let split = flat_dropped placements_in xs i x c.loop-placements-test.true c.placements-item.is in
-    puts_failed _ _ _ _ _ _ c.from_residual.ensures.0 (some_breaks _ _ _ _ _ _ _ _ _ (text_split (cluster_named c.args.known.names.now) (map life_of c.args.known.lives.now) _ _ _ split) c.loop-placements.invariant.some c.in_err-count.ensures.text)
+    puts_failed _ _ _ _ _ _ c.from_residual.ensures.0
+    (some_breaks _ _ _ _ _ _ _ _ _
+    (text_split (cluster_named c.args.known.names.now) (map life_of c.args.known.lives.now) _ _ _ split)
+    c.loop-placements.invariant.some c.in_err-count.ensures.text)
 
 pub loop-placements-preserved : goal.loop-placements-preserved
 loop-placements-preserved g c =
@@ -26,7 +29,11 @@ loop-placements-preserved g c =
     let sum = c.in_ok-count.ensures.count in
     let so_far = c.loop-placements.invariant.count in
     record {
-      some = some_on _ _ _ _ _ _ _ _ _ _ (text_split (cluster_named c.args.known.names.now) (map life_of c.args.known.lives.now) all (placements_in x) rest split) c.loop-placements.invariant.some c.in_ok-count.ensures.text;
+      some =
+          some_on _ _ _ _ _ _ _ _ _ _
+          (text_split (cluster_named c.args.known.names.now) (map life_of c.args.known.lives.now) all (placements_in x)
+          rest split)
+          c.loop-placements.invariant.some c.in_ok-count.ensures.text;
       count = omega arith;
       failures = c.in_ok-count.ensures.failures ∙ c.loop-placements.invariant.failures;
     }

@@ -10,8 +10,10 @@ abbrev pub invariant-loop-placements : goal.invariant-loop-placements
 invariant-loop-placements g l = record {
   some : PutsSome l.fn.output (g.S.Sink.written l.fn.sink)
       (placements_text (cluster_named l.known.names.now) (map life_of l.known.lives.now) (flat_map placements_in l.all))
-      (placements_text (cluster_named l.known.names.now) (map life_of l.known.lives.now) (flat_map placements_in (drop l.placements-index l.all)))
+      (placements_text (cluster_named l.known.names.now) (map life_of l.known.lives.now)
+      (flat_map placements_in (drop l.placements-index l.all)))
       l.output (g.S.Sink.written l.sink);
-  count : l.count + length (flat_map placements_in (drop l.placements-index l.all)) ≡ length (flat_map placements_in l.all);
+  count :
+      l.count + length (flat_map placements_in (drop l.placements-index l.all)) ≡ length (flat_map placements_in l.all);
   failures : g.S.Sink.failures l.sink ≡ g.S.Sink.failures l.fn.sink;
 }

@@ -9,10 +9,17 @@ use Rattle.mesh_script.proofs.output.put_step.Given as goal
 abbrev pub invariant-loop-placed : goal.invariant-loop-placed
 invariant-loop-placed g l = record {
   some : PutsSome l.fn.output (g.S.Sink.written l.fn.sink)
-      (placements_text (cluster_named l.known.names.now) (map life_of l.known.lives.now) (placements_put (placing_server l.placements.node l.placements.inc) l.placements.step l.placements.entries.items))
-      (placements_text (cluster_named l.known.names.now) (map life_of l.known.lives.now) (placements_put (placing_server l.placements.node l.placements.inc) l.placements.step (drop l.placed-index l.placements.entries.items)))
+      (placements_text (cluster_named l.known.names.now) (map life_of l.known.lives.now)
+      (placements_put (placing_server l.placements.node l.placements.inc) l.placements.step l.placements.entries.items))
+      (placements_text (cluster_named l.known.names.now) (map life_of l.known.lives.now)
+      (placements_put (placing_server l.placements.node l.placements.inc) l.placements.step
+      (drop l.placed-index l.placements.entries.items)))
       l.output (g.S.Sink.written l.sink);
-  count : l.count + length (placements_put (placing_server l.placements.node l.placements.inc) l.placements.step (drop l.placed-index l.placements.entries.items))
-      ≡ l.before + length (placements_put (placing_server l.placements.node l.placements.inc) l.placements.step l.placements.entries.items);
+  count : l.count
+      + length (placements_put (placing_server l.placements.node l.placements.inc) l.placements.step
+      (drop l.placed-index l.placements.entries.items))
+      ≡ l.before
+      + length
+      (placements_put (placing_server l.placements.node l.placements.inc) l.placements.step l.placements.entries.items);
   failures : g.S.Sink.failures l.sink ≡ g.S.Sink.failures l.fn.sink;
 }

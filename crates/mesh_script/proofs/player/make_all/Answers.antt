@@ -18,14 +18,18 @@ returns-in_err-make-clause-makes g c =
     let was = g.S.Sink.written c.args.sink.now in
     let is = g.S.Sink.written c.loop-step.sink in
     let now = g.S.Sink.written c.make.new.sink in
-    let split = at_drop_more (steps_ask l names) items i x c.loop-step-test.true ∙ ap (λ (y : Step). and_then (asks_for l (step_wants names y)) tail) (sym c.step-item.is) in
-    let moves = subst (λ rest. Moves c.args.player.now was (steps_ask l names items) rest c.loop-step.player is) split c.loop-step.invariant.moves in
-    let broke =
-    subst (λ cluster. BreaksOff c.loop-step.player is (asks_for cluster (step_wants names x)) now) c.loop-step.invariant.moves.cluster
-    (subst (λ n. BreaksOff c.loop-step.player is (asks_for c.loop-step.player.cluster (step_wants n x)) now) c.names.ensures c.in_err-make.ensures.makes) in
+    let split = at_drop_more (steps_ask l names) items i x c.loop-step-test.true
+    ∙ ap (λ (y : Step). and_then (asks_for l (step_wants names y)) tail) (sym c.step-item.is) in
+    let moves = subst (λ rest. Moves c.args.player.now was (steps_ask l names items) rest c.loop-step.player is) split
+    c.loop-step.invariant.moves in
+    let broke = subst (λ cluster. BreaksOff c.loop-step.player is (asks_for cluster (step_wants names x)) now)
+    c.loop-step.invariant.moves.cluster
+    (subst (λ n. BreaksOff c.loop-step.player is (asks_for c.loop-step.player.cluster (step_wants n x)) now)
+    c.names.ensures c.in_err-make.ensures.makes) in
     makes_failed _ c.args.player.now _ was now _ c.from_residual.ensures.0
     (subst (λ steps. BreaksOff c.args.player.now was (steps_ask l names steps) now) c.steps-step-items.ensures
-    (breaks_after c.args.player.now c.loop-step.player was is now (steps_ask l names items) (and_then first tail) moves (breaks_before c.loop-step.player is now first tail broke)))
+    (breaks_after c.args.player.now c.loop-step.player was is now (steps_ask l names items) (and_then first tail) moves
+    (breaks_before c.loop-step.player is now first tail broke)))
 
 pub loop-step-preserved : goal.loop-step-preserved
 loop-step-preserved g c =
@@ -39,12 +43,20 @@ loop-step-preserved g c =
     let was = g.S.Sink.written c.args.sink.now in
     let is = g.S.Sink.written c.loop-step.sink in
     let now = g.S.Sink.written c.make.new.sink in
-    let split = at_drop_more (steps_ask l names) items i x c.loop-step-test.true ∙ ap (λ (y : Step). and_then (asks_for l (step_wants names y)) tail) (sym c.step-item.is) in
-    let moves = subst (λ rest. Moves c.args.player.now was (steps_ask l names items) rest c.loop-step.player is) split c.loop-step.invariant.moves in
-    let made =
-    subst (λ cluster. Moves c.loop-step.player is (asks_for cluster (step_wants names x)) NoMore c.make.new.self now) c.loop-step.invariant.moves.cluster
-    (subst (λ n. Moves c.loop-step.player is (asks_for c.loop-step.player.cluster (step_wants n x)) NoMore c.make.new.self now) c.names.ensures c.in_ok-make.ensures.makes) in
+    let split = at_drop_more (steps_ask l names) items i x c.loop-step-test.true
+    ∙ ap (λ (y : Step). and_then (asks_for l (step_wants names y)) tail) (sym c.step-item.is) in
+    let moves = subst (λ rest. Moves c.args.player.now was (steps_ask l names items) rest c.loop-step.player is) split
+    c.loop-step.invariant.moves in
+    let made = subst
+    (λ cluster. Moves c.loop-step.player is (asks_for cluster (step_wants names x)) NoMore c.make.new.self now)
+    c.loop-step.invariant.moves.cluster
+    (subst
+    (λ n. Moves c.loop-step.player is (asks_for c.loop-step.player.cluster (step_wants n x)) NoMore c.make.new.self now)
+    c.names.ensures c.in_ok-make.ensures.makes) in
     record {
-      moves = moves_on c.args.player.now c.loop-step.player c.make.new.self was is now (steps_ask l names items) (and_then first tail) tail moves (moves_before c.loop-step.player c.make.new.self is now first NoMore tail made);
+      moves =
+          moves_on c.args.player.now c.loop-step.player c.make.new.self was is now (steps_ask l names items)
+          (and_then first tail) tail moves
+          (moves_before c.loop-step.player c.make.new.self is now first NoMore tail made);
       failures = c.in_ok-make.ensures.failures ∙ c.loop-step.invariant.failures;
     }

@@ -1,4 +1,4 @@
-use Rattle.node_law.proofs.Interest.CountsOpen.{counts_are_open}
+use Rattle.node_law.proofs.Interest.CountsKept.{counts_are_open}
 use Rattle.node_law.proofs.laws.counts_are_open.Goals as goal
 
 pub returns : goal.returns

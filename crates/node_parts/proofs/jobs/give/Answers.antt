@@ -7,10 +7,14 @@ use Rattle.node_parts.proofs.Handing.{popped}
 use Rattle.node_parts.proofs.jobs.give.Goals as goal
 
 pub hand_over-requires : goal.hand_over-requires
-hand_over-requires g c = c.requires.room 0 c.in-Some.first.now (ap (λ (lines : List ShardWithJobs). slice_get lines 0) c.in-Some.ensures.cases.0)
+hand_over-requires g c =
+    c.requires.room 0 c.in-Some.first.now
+    (ap (λ (lines : List ShardWithJobs). slice_get lines 0) c.in-Some.ensures.cases.0)
 
 pub hand_out-requires-clause-room : goal.hand_out-requires-clause-room
-hand_out-requires-clause-room g c = λ place line at. c.requires.room (suc place) line (ap (λ (lines : List ShardWithJobs). slice_get lines (suc place)) c.in-Some.ensures.cases.0 ∙ at)
+hand_out-requires-clause-room g c = λ place line at.
+    c.requires.room (suc place) line
+    (ap (λ (lines : List ShardWithJobs). slice_get lines (suc place)) c.in-Some.ensures.cases.0 ∙ at)
 
 pub returns : goal.returns
 returns g c = λ same alike.
@@ -19,9 +23,15 @@ returns g c = λ same alike.
     let others = c.in-Some.others.now in
     let split = c.in-Some.ensures.cases in
     let parts = popped copies job same (alike ∙ ap (λ n. replicate n same) (sym c.requires.enough)) in
-    let few : length copies ≡ length others = (let more = length-append copies (job ∷ []) in let enough = c.requires.enough in let rest = split.1 in omega arith) in
-    let first : c.hand_over.new.self ≡ line_with_job same c.in-Some.first.now = c.hand_over.ensures ∙ ap (λ (j : Job). line_with_job j c.in-Some.first.now) parts.0 in
-    let rest : c.hand_out.new.lines ≡ map (line_with_job same) others = c.hand_out.ensures same (parts.1 ∙ ap (λ n. replicate n same) few) in
+    let few : length copies ≡ length others =
+    (let more = length-append copies (job ∷ []) in
+    let enough = c.requires.enough in
+    let rest = split.1 in
+    omega arith) in
+    let first : c.hand_over.new.self ≡ line_with_job same c.in-Some.first.now =
+    c.hand_over.ensures ∙ ap (λ (j : Job). line_with_job j c.in-Some.first.now) parts.0 in
+    let rest : c.hand_out.new.lines ≡ map (line_with_job same) others =
+    c.hand_out.ensures same (parts.1 ∙ ap (λ n. replicate n same) few) in
     (λ k. first k ∷ rest k) ∙ ap (map (line_with_job same)) (sym split.0)
 
 pub unreachable-requires : goal.unreachable-requires

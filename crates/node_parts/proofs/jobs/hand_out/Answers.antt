@@ -14,8 +14,12 @@ hand_over-requires g c =
     let k = c.loop-line.line-index in
     let items = c.loop-line.line-items in
     let x = c.line-item.result in
-    let here : slice_get items k ≡ Some x = slice_get-get_or items k x (let size = c.loop-line.invariant.size in let test = c.loop-line-test.true in omega arith) ∙ ap Some (sym c.line-item.is) in
-    let room : length x.waiting < WINDOW = c.requires.room k x (first_of_rest items c.args.lines.now k x c.loop-line.invariant.rest here) in
+    let here : slice_get items k ≡ Some x =
+    slice_get-get_or items k x
+    (let size = c.loop-line.invariant.size in let test = c.loop-line-test.true in omega arith)
+    ∙ ap Some (sym c.line-item.is) in
+    let room : length x.waiting < WINDOW =
+    c.requires.room k x (first_of_rest items c.args.lines.now k x c.loop-line.invariant.rest here) in
     subst (λ (line : ShardWithJobs). length line.waiting < WINDOW) c.line-item.is room
 
 pub loop-line-preserved : goal.loop-line-preserved
@@ -27,15 +31,28 @@ loop-line-preserved g c =
     let invariant = c.loop-line.invariant in
     let job = c.in-Some.job in
     let next : suc k ≡ k + 1 = omega arith in
-    let here : slice_get items k ≡ Some x = slice_get-get_or items k x (let size = c.loop-line.invariant.size in let test = c.loop-line-test.true in omega arith) ∙ ap Some (sym c.line-item.is) in
+    let here : slice_get items k ≡ Some x =
+    slice_get-get_or items k x
+    (let size = c.loop-line.invariant.size in let test = c.loop-line-test.true in omega arith)
+    ∙ ap Some (sym c.line-item.is) in
     let there = first_of_rest items lines k x invariant.rest here in
-    let after : c.hand_over.new.self ≡ line_with_job job x = c.hand_over.ensures ∙ ap (line_with_job job) (sym c.line-item.is) in
+    let after : c.hand_over.new.self ≡ line_with_job job x =
+    c.hand_over.ensures ∙ ap (line_with_job job) (sym c.line-item.is) in
     let one = λ (j : Job) (same : c.args.jobs.now.items ≡ replicate (length lines) j).
-    popped c.pop.new.self.items job j (subst (λ (js : List Job). js ≡ replicate (length js) j) c.in-Some.ensures.items (invariant.alike j same)) in
+    popped c.pop.new.self.items job j
+    (subst (λ (js : List Job). js ≡ replicate (length js) j) c.in-Some.ensures.items (invariant.alike j same)) in
     record {
       size = set_length items k c.hand_over.new.self ∙ invariant.size;
-      enough = (let long = ap length c.in-Some.ensures.items in let more = length-append c.pop.new.self.items (job ∷ []) in let old = invariant.enough in omega arith);
-      rest = ap (λ n. drop n (set items k c.hand_over.new.self)) (sym next) ∙ rest_same items k c.hand_over.new.self ∙ rest_next items lines k invariant.rest ∙ ap (λ n. drop n lines) next;
+      enough =
+          (let long = ap length c.in-Some.ensures.items in
+          let more = length-append c.pop.new.self.items (job ∷ []) in
+          let old = invariant.enough in
+          omega arith);
+      rest =
+          ap (λ n. drop n (set items k c.hand_over.new.self)) (sym next)
+          ∙ rest_same items k c.hand_over.new.self
+          ∙ rest_next items lines k invariant.rest
+          ∙ ap (λ n. drop n lines) next;
       alike = λ j same. (one j same).1;
       given = λ j same.
           ap (λ (l : ShardWithJobs). set items k l) (after ∙ ap (λ (t : Job). line_with_job t x) (one j same).0)

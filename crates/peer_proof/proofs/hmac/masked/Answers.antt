@@ -9,4 +9,5 @@ pub returns : goal.returns
 returns c =
     let end : c.loop-place.place ≡ 64 = omega arith in
     let size : length c.args.block.now ≡ 64 = omega arith in
-    all_masked _ _ _ size (subst (λ n. IsMasked c.loop-place.bytes c.args.block.now c.args.mask n) end c.loop-place.invariant)
+    all_masked _ _ _ size
+    (subst (λ n. IsMasked c.loop-place.bytes c.args.block.now c.args.mask n) end c.loop-place.invariant)

@@ -6,7 +6,10 @@ use Rattle.peer_proof.specs.Hmac.{zeros_behind}
 use Rattle.peer_proof.proofs.hmac.over_zeros.Goals as goal
 
 -- a key that is written over zeros
-over : (written key zeros : List ℕ) → written ≡ key → zeros ≡ replicate BLOCK 0 → written ++ drop (length key) zeros ≡ zeros_behind key
+over : (written key zeros : List ℕ)
+    → written ≡ key
+    → zeros ≡ replicate BLOCK 0
+    → written ++ drop (length key) zeros ≡ zeros_behind key
 over written key zeros same are =
     ap (λ bytes. bytes ++ drop (length key) zeros) same
     ∙ ap (λ rest. key ++ rest) (ap (drop (length key)) are ∙ drop-replicate (length key) BLOCK 0)

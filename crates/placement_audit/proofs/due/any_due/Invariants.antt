@@ -6,4 +6,6 @@ use Rattle.placement_audit.proofs.due.any_due.Given as goal
 
 -- the rest tells it
 abbrev pub invariant-loop-life : goal.invariant-loop-life
-invariant-loop-life l = any_due (publication_of l.source) (placement_of l.placement) (map lent_life (drop l.life-index l.lives)) ≡ any_due (publication_of l.source) (placement_of l.placement) (map lent_life l.lives)
+invariant-loop-life l =
+    any_due (publication_of l.source) (placement_of l.placement) (map lent_life (drop l.life-index l.lives))
+    ≡ any_due (publication_of l.source) (placement_of l.placement) (map lent_life l.lives)

@@ -5,4 +5,6 @@ use Rattle.placement_audit.proofs.due.any_owed.Given as goal
 
 -- the rest tells it
 abbrev pub invariant-loop-source : goal.invariant-loop-source
-invariant-loop-source l = any_owed (placement_of l.placement) (map lent_life l.lives) (map lent_publication (drop l.source-index l.sources)) ≡ any_owed (placement_of l.placement) (map lent_life l.lives) (map lent_publication l.sources)
+invariant-loop-source l =
+    any_owed (placement_of l.placement) (map lent_life l.lives) (map lent_publication (drop l.source-index l.sources))
+    ≡ any_owed (placement_of l.placement) (map lent_life l.lives) (map lent_publication l.sources)

@@ -11,5 +11,6 @@ use Rattle.placement_audit.proofs.named.is_owed.Goals as goal
 pub returns-in_default-get : goal.returns-in_default-get
 returns-in_default-get c = λ ps ls sources lives.
     let key : LifeKey = record { id = c.args.placement.now.life } in
-    let none : get life_key_cmp c.args.lives.now key ≡ None = sym c.get-2.ensures.value ∙ ap option_copied c.in_default-get.is in
+    let none : get life_key_cmp c.args.lives.now key ≡ None =
+    sym c.get-2.ensures.value ∙ ap option_copied c.in_default-get.is in
     no_life ps ls (placement_of c.args.placement.now) (sym (lives key) ∙ ap (λ o. map lent_life (entries_in o)) none)

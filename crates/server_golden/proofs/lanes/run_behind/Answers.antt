@@ -5,11 +5,16 @@ use Rattle.job_lane.proofs.Numbering.{behind_snoc}
 use Rattle.server_golden.proofs.lanes.run_behind.Goals as goal
 
 pub loop-made-preserved : goal.loop-made-preserved
-loop-made-preserved c = let kept = c.loop-made.invariant in let job : Job = c.in_ok-job.job in let before = c.loop-made.jobs.items in
+loop-made-preserved c =
+    let kept = c.loop-made.invariant in
+    let job : Job = c.in_ok-job.job in
+    let before = c.loop-made.jobs.items in
     let items : c.push.new.self.items ≡ before ++ job ∷ [] = search rules in
     let turn : c.in_ok-turn.turn ≡ c.loop-made.turn + 1 = search rules in
     let mine : job.turn ≡ c.in_ok-turn.turn = c.in_ok-job.ensures in
-    let count = kept.0 in let last = kept.1 in let long = length-append before (job ∷ []) in (
+    let count = kept.0 in
+    let last = kept.1 in
+    let long = length-append before (job ∷ []) in (
       ap length items ∙ (let e : length (before ++ job ∷ []) ≡ c.loop-made._made + 1 = omega arith in e),
       omega arith,
       subst (AreNumberedBehind c.args.last) (sym items) (behind_snoc c.args.last before job kept.2 (omega arith)),

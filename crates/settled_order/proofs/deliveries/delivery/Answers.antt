@@ -10,4 +10,8 @@ returns-clause-right g c =
     let v = c.args.world.now in
     let p = publication_by c.args.conn c.args.publication.now c.args.word in
     let shards = c.shards-shards.ensures in
-    IfOk-weaker c.ready_work.result _ _ (λ order is. owed_is_right c.some_order_is_right.ensures v.cluster v.world c.takes_where_settled.ensures (omega (arith, shards.same, shards.some)) c.args.node p (events_in order) is) c.ready_work.ensures
+    IfOk-weaker c.ready_work.result _ _
+    (λ order is.
+    owed_is_right c.some_order_is_right.ensures v.cluster v.world c.takes_where_settled.ensures
+    (omega (arith, shards.same, shards.some)) c.args.node p (events_in order) is)
+    c.ready_work.ensures

@@ -6,5 +6,6 @@ use Rattle.settled_order.proofs.order.put_frames.Given as goal
 abbrev pub invariant-loop-frame : goal.invariant-loop-frame
 invariant-loop-frame l = record {
   events : l.events ≡ l.fn.events;
-  rest : frames_order l.origin.names.now l.node l.origin.shards l.number (drop l.frame-index l.frames) ≡ frames_order l.origin.names.now l.node l.origin.shards l.origin.first l.frames;
+  rest : frames_order l.origin.names.now l.node l.origin.shards l.number (drop l.frame-index l.frames)
+      ≡ frames_order l.origin.names.now l.node l.origin.shards l.origin.first l.frames;
 }

@@ -9,7 +9,9 @@ use Rattle.settled_order.proofs.Orders.{work_first, work_last, claims_next, put_
 use Rattle.settled_order.proofs.order.put_work.Goals as goal
 
 pub loop-index-init : goal.loop-index-init
-loop-index-init c = work_first c.args.node c.args.shard c.args.names (events_in c.args.events.now) (events_in c.put_at.new.events) c.in_ok-put_at.ensures
+loop-index-init c =
+    work_first c.args.node c.args.shard c.args.names (events_in c.args.events.now) (events_in c.put_at.new.events)
+    c.in_ok-put_at.ensures
 
 pub loop-index-preserved : goal.loop-index-preserved
 loop-index-preserved c =
@@ -17,9 +19,16 @@ loop-index-preserved c =
     let s = c.args.shard in
     let names = c.args.names in
     let i = c.loop-index.index in
-    put_on (events_in c.loop-index.events) (events_in c.put_at-in-loop-index.new.events) (At n (AtShard s (Claim i)) ∷ []) (claims_from n s (i + 1) (names - (i + 1))) (claims_from n s i (names - i)) _ c.loop-index.invariant
-    (claims_next n s i names (omega (arith, c.loop-index-test.true, c.loop-index.auto.index-end))) c.in_ok-put_at-2.ensures
+    put_on (events_in c.loop-index.events) (events_in c.put_at-in-loop-index.new.events)
+    (At n (AtShard s (Claim i)) ∷ []) (claims_from n s (i + 1) (names - (i + 1))) (claims_from n s i (names - i)) _
+    c.loop-index.invariant
+    (claims_next n s i names (omega (arith, c.loop-index-test.true, c.loop-index.auto.index-end)))
+    c.in_ok-put_at-2.ensures
 
 pub returns : goal.returns
 returns c =
-    on_ok_weaker c.put_at-2.result (work_last c.args.node c.args.shard c.loop-index.index c.args.names (events_in c.loop-index.events) (events_in c.put_at-2.new.events) _ (omega (arith, c.loop-index-test.false, c.loop-index.auto.index-end)) c.loop-index.invariant) c.put_at-2.ensures
+    on_ok_weaker c.put_at-2.result
+    (work_last c.args.node c.args.shard c.loop-index.index c.args.names (events_in c.loop-index.events)
+    (events_in c.put_at-2.new.events) _ (omega (arith, c.loop-index-test.false, c.loop-index.auto.index-end))
+    c.loop-index.invariant)
+    c.put_at-2.ensures

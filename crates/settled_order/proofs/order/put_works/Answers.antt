@@ -13,8 +13,13 @@ loop-place-preserved c =
     let shards = c.args.shards in
     let names = c.args.names in
     let i = c.loop-place.place in
-    put_on (events_in c.loop-place.events) (events_in c.put_work.new.events) (work_events n (i + 1) names) (works_from n (i + 1) (shards - (i + 1)) names) (works_from n i (shards - i) names) _ c.loop-place.invariant
-    (works_next n i shards names (omega (arith, c.loop-place-test.true, c.loop-place.auto.place-end))) c.in_ok-put_work.ensures
+    put_on (events_in c.loop-place.events) (events_in c.put_work.new.events) (work_events n (i + 1) names)
+    (works_from n (i + 1) (shards - (i + 1)) names) (works_from n i (shards - i) names) _ c.loop-place.invariant
+    (works_next n i shards names (omega (arith, c.loop-place-test.true, c.loop-place.auto.place-end)))
+    c.in_ok-put_work.ensures
 
 pub returns : goal.returns
-returns c = put_all (events_in c.loop-place.events) _ _ c.loop-place.invariant (works_end c.args.node c.loop-place.place c.args.shards c.args.names (omega (arith, c.loop-place-test.false, c.loop-place.auto.place-end)))
+returns c =
+    put_all (events_in c.loop-place.events) _ _ c.loop-place.invariant
+    (works_end c.args.node c.loop-place.place c.args.shards c.args.names
+    (omega (arith, c.loop-place-test.false, c.loop-place.auto.place-end)))

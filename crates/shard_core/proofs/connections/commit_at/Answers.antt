@@ -11,12 +11,18 @@ returns-then-place-conns-clause-next c =
     let conns = c.args.conns.now in
     let r = c.index-conns-place.result in
     let x = slice_index_or conns c.args.place r in
-    same_seen next_backlog conns c.args.place r (record { number = x.number; outbox = c.commit.new.self; headers = x.headers }) (ap (λ (b : Waiting). client_in_view next_backlog (record { number = x.number; outbox = b; headers = x.headers })) c.commit.ensures)
+    same_seen next_backlog conns c.args.place r
+    (record { number = x.number; outbox = c.commit.new.self; headers = x.headers })
+    (ap (λ (b : Waiting). client_in_view next_backlog (record { number = x.number; outbox = b; headers = x.headers }))
+    c.commit.ensures)
 
 pub returns-then-place-conns-clause-settled : goal.returns-then-place-conns-clause-settled
 returns-then-place-conns-clause-settled c =
     let alike = ap (λ (b : Waiting). b.next) c.commit.ensures ∙ sym (ap (λ (b : Waiting). b.shown) c.commit.ensures) in
-    λ places was. conns_less_at places c.args.conns.now c.args.place c.index-conns-place.result c.commit.new.self c.if-place-conns.true alike was
+    λ places was.
+    conns_less_at places c.args.conns.now c.args.place c.index-conns-place.result c.commit.new.self
+    c.if-place-conns.true alike was
 
 pub returns-else-place-conns-clause-settled : goal.returns-else-place-conns-clause-settled
-returns-else-place-conns-clause-settled c = λ places was. no_such_conn places c.args.conns.now c.args.place c.if-place-conns.false was
+returns-else-place-conns-clause-settled c =
+    λ places was. no_such_conn places c.args.conns.now c.args.place c.if-place-conns.false was

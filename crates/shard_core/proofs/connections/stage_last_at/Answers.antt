@@ -14,11 +14,13 @@ returns-in_err-stage_last-clause-err c =
     let conns = c.args.conns.now.items in
     let x = c.index_mut-conn.result.now in
     let is = c.index_mut-conn.ensures.value in
-    left_after c.from_residual.result (none_staged_at conns c.args.place x c.stage_last.new.self c.requires.within is c.in_err-stage_last.ensures.err)
+    left_after c.from_residual.result
+    (none_staged_at conns c.args.place x c.stage_last.new.self c.requires.within is c.in_err-stage_last.ensures.err)
 
 pub returns-clause-ok : goal.returns-clause-ok
 returns-clause-ok c =
     let conns = c.args.conns.now.items in
     let x = c.index_mut-conn.result.now in
     let is = c.index_mut-conn.ensures.value in
-    box_staged (with_last c.args.line.now) conns c.args.place x c.stage_last.new.self c.requires.within is c.in_ok-stage_last.ensures.ok
+    box_staged (with_last c.args.line.now) conns c.args.place x c.stage_last.new.self c.requires.within is
+    c.in_ok-stage_last.ensures.ok

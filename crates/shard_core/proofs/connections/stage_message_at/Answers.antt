@@ -14,11 +14,14 @@ returns-in_err-stage_message-clause-err c =
     let conns = c.args.conns.now.items in
     let x = c.index_mut-conn.result.now in
     let is = c.index_mut-conn.ensures.value in
-    left_after c.from_residual.result (none_staged_at conns c.args.place x c.stage_message.new.self c.requires.within is c.in_err-stage_message.ensures.err)
+    left_after c.from_residual.result
+    (none_staged_at conns c.args.place x c.stage_message.new.self c.requires.within is
+    c.in_err-stage_message.ensures.err)
 
 pub returns-clause-ok : goal.returns-clause-ok
 returns-clause-ok c =
     let conns = c.args.conns.now.items in
     let x = c.index_mut-conn.result.now in
     let is = c.index_mut-conn.ensures.value in
-    box_staged (with_entry (message_entry c.args.id c.args.sub c.args.mode c.args.line.now c.args.body.now)) conns c.args.place x c.stage_message.new.self c.requires.within is c.in_ok-stage_message.ensures.ok
+    box_staged (with_entry (message_entry c.args.id c.args.sub c.args.mode c.args.line.now c.args.body.now)) conns
+    c.args.place x c.stage_message.new.self c.requires.within is c.in_ok-stage_message.ensures.ok

@@ -15,11 +15,13 @@ returns-in_err-stage_parts-clause-err c =
     let conns = c.args.conns.now.items in
     let x = c.index_mut-conn.result.now in
     let is = c.index_mut-conn.ensures.value in
-    left_after c.from_residual.result (none_staged_at conns c.args.place x c.stage_parts.new.self c.requires.within is c.in_err-stage_parts.ensures.err)
+    left_after c.from_residual.result
+    (none_staged_at conns c.args.place x c.stage_parts.new.self c.requires.within is c.in_err-stage_parts.ensures.err)
 
 pub returns-clause-ok : goal.returns-clause-ok
 returns-clause-ok c =
     let conns = c.args.conns.now.items in
     let x = c.index_mut-conn.result.now in
     let is = c.index_mut-conn.ensures.value in
-    box_staged (with_entry (spelt_entry c.args.id c.args.sub c.args.mode (c.args.head.now ++ c.args.tail.now))) conns c.args.place x c.stage_parts.new.self c.requires.within is c.in_ok-stage_parts.ensures.ok
+    box_staged (with_entry (spelt_entry c.args.id c.args.sub c.args.mode (c.args.head.now ++ c.args.tail.now))) conns
+    c.args.place x c.stage_parts.new.self c.requires.within is c.in_ok-stage_parts.ensures.ok

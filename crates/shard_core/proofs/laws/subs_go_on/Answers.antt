@@ -1,4 +1,4 @@
-use Rattle.shard_core.proofs.Closings.Causes.{subs_go_on}
+use Rattle.shard_core.proofs.Closings.Reasons.{subs_go_on}
 use Rattle.shard_core.proofs.laws.subs_go_on.Goals as goal
 
 pub returns : goal.returns

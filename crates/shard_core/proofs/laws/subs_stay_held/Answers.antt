@@ -1,4 +1,4 @@
-use Rattle.shard_core.proofs.Closings.Causes.{subs_stay_held}
+use Rattle.shard_core.proofs.Closings.Whys.{subs_stay_held}
 use Rattle.shard_core.proofs.laws.subs_stay_held.Goals as goal
 
 pub returns : goal.returns

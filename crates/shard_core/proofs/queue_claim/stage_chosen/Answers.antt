@@ -7,4 +7,6 @@ pub unreachable-requires : goal.unreachable-requires
 unreachable-requires c =
     let claim = c.args.claim.now in
     let sub = c.args.sub.now in
-    true≢false (sym c.requires.room ∙ ap (λ o. fits o (owed_entry claim.shard c.args.conns.now.next claim.job.now sub.key.queue sub)) (c.seat.ensures.none c.in_default.is))
+    true≢false (sym c.requires.room
+    ∙ ap (λ o. fits o (owed_entry claim.shard c.args.conns.now.next claim.job.now sub.key.queue sub))
+    (c.seat.ensures.none c.in_default.is))

@@ -5,4 +5,6 @@ use Rattle.shard_core.proofs.Turns.Received.{can_count_found}
 use Rattle.shard_core.proofs.receiver_walk.ends.Goals as goal
 
 pub is_last-requires : goal.is_last-requires
-is_last-requires g c = can_count_found c.serial.result c.args.openings.now.subs c.in-Some.sub.now c.requires (sym (c.in-Some.ensures ∙ ap (find (has_serial c.serial.result)) c.table.ensures.subs))
+is_last-requires g c =
+    can_count_found c.serial.result c.args.openings.now.subs c.in-Some.sub.now c.requires
+    (sym (c.in-Some.ensures ∙ ap (find (has_serial c.serial.result)) c.table.ensures.subs))

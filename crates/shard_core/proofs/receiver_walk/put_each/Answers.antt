@@ -12,6 +12,9 @@ loop-receiver-preserved g c = record {
   so_far =
       let subs = c.args.openings.now.subs in
       let subject = c.args.job.now.message.subject in
-      received_on subs c.args.job.now (filter (gets subject) subs) c.args.receivers.now c.loop-receiver.receiver-index c.receiver-item.result _ _ _ _ _ _ c.requires.rising refl c.requires.receivers c.loop-receiver-test.true
-      (λ sub is. c.in_ok-put_if_due.ensures.ok sub (subst (λ r. IsFoundAs subs subject r sub) (sym c.receiver-item.is) is)) c.loop-receiver.invariant.so_far;
+      received_on subs c.args.job.now (filter (gets subject) subs) c.args.receivers.now c.loop-receiver.receiver-index
+      c.receiver-item.result _ _ _ _ _ _ c.requires.rising refl c.requires.receivers c.loop-receiver-test.true
+      (λ sub is.
+      c.in_ok-put_if_due.ensures.ok sub (subst (λ r. IsFoundAs subs subject r sub) (sym c.receiver-item.is) is))
+      c.loop-receiver.invariant.so_far;
 }

@@ -9,5 +9,7 @@ abbrev pub invariant-loop-receiver : goal.invariant-loop-receiver
 invariant-loop-receiver g l = record {
   shown : l.conns.shown ≡ l.fn.conns.shown;
   copies : l.buffer.copies ≡ false;
-  so_far : Follows l.openings.subs l.job (λ s w. walk_matching s l.job (take l.receiver-index (filter (gets l.job.message.subject) l.openings.subs)) w) l.fn.conns.next l.fn.buffer l.conns.next l.buffer;
+  so_far : Follows l.openings.subs l.job
+      (λ s w. walk_matching s l.job (take l.receiver-index (filter (gets l.job.message.subject) l.openings.subs)) w)
+      l.fn.conns.next l.fn.buffer l.conns.next l.buffer;
 }

@@ -4,4 +4,5 @@ use Rattle.shard_core.specs.Tallies.{lent_subs}
 use Rattle.shard_core.proofs.receivers.push_receivers.Given as goal
 
 abbrev pub invariant-loop-sub : goal.invariant-loop-sub
-invariant-loop-sub l = l.receivers.items ≡ l.fn.receivers.items ++ receivers_of l.subject (lent_subs (take l.sub-index l.matching))
+invariant-loop-sub l =
+    l.receivers.items ≡ l.fn.receivers.items ++ receivers_of l.subject (lent_subs (take l.sub-index l.matching))

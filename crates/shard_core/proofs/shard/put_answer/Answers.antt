@@ -3,4 +3,5 @@ use Rattle.shard_core.proofs.Clients.Told.{nothing_put}
 use Rattle.shard_core.proofs.shard.put_answer.Goals as goal
 
 pub returns-in_err-text-clause-told : goal.returns-in_err-text-clause-told
-returns-in_err-text-clause-told c = nothing_put c.args.conns.now.shown c.args.conns.now.shown c.args.dirty_conns.now refl
+returns-in_err-text-clause-told c =
+    nothing_put c.args.conns.now.shown c.args.conns.now.shown c.args.dirty_conns.now refl

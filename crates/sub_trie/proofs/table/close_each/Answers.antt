@@ -10,5 +10,8 @@ loop-serial-preserved c =
     let serials = c.args.serials.now in
     record {
       called = c.close_one.ensures.called;
-      rest = ap (without_each (drop (k + 1) serials)) c.close_one.ensures.closed ∙ sym (without_more serials k 0 (subs_in_order c.loop-serial.opened.subs) c.loop-serial-test.true) ∙ c.loop-serial.invariant.rest;
+      rest =
+          ap (without_each (drop (k + 1) serials)) c.close_one.ensures.closed
+          ∙ sym (without_more serials k 0 (subs_in_order c.loop-serial.opened.subs) c.loop-serial-test.true)
+          ∙ c.loop-serial.invariant.rest;
     }

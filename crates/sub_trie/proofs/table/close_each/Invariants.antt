@@ -7,5 +7,6 @@ use Rattle.sub_trie.proofs.table.close_each.Given as goal
 abbrev pub invariant-loop-serial : goal.invariant-loop-serial
 invariant-loop-serial l = record {
   called : AreCalled l.by_sid (subs_in_order l.opened.subs);
-  rest : without_each (drop l.serial-index l.serials) (subs_in_order l.opened.subs) ≡ without_each l.serials (subs_in_order l.fn.opened.subs);
+  rest : without_each (drop l.serial-index l.serials) (subs_in_order l.opened.subs)
+      ≡ without_each l.serials (subs_in_order l.fn.opened.subs);
 }

@@ -3,11 +3,16 @@ use Rattle.thread_tests.proofs.Claims.{last_is, rest_is}
 use Rattle.thread_tests.proofs.claim_tests.two_shards.Goals as goal
 
 pub returns : goal.returns
-returns c = let race = c.in_ok-cells.cells in let seats = c.in_ok-cells.seats.items in let made = c.in_ok-cells.ensures in
-    let second : seats ≡ c.pop.new.self.items ++ c.unwrap-second.result ∷ [] = search rules in let first : c.pop.new.self.items ≡ c.pop-2.new.self.items ++ c.unwrap-first.result ∷ [] = search rules in
+returns c =
+    let race = c.in_ok-cells.cells in
+    let seats = c.in_ok-cells.seats.items in
+    let made = c.in_ok-cells.ensures in
+    let second : seats ≡ c.pop.new.self.items ++ c.unwrap-second.result ∷ [] = search rules in
+    let first : c.pop.new.self.items ≡ c.pop-2.new.self.items ++ c.unwrap-first.result ∷ [] = search rules in
     let rest = rest_is race seats c.pop.new.self.items c.unwrap-second.result second 1 made.3 in
     let one = last_is race c.pop.new.self.items c.pop-2.new.self.items c.unwrap-first.result first 0 rest in
-    let two = last_is race seats c.pop.new.self.items c.unwrap-second.result second 1 made.3 in record {
+    let two = last_is race seats c.pop.new.self.items c.unwrap-second.result second 1 made.3 in
+    record {
       count = made.0;
       hubs = made.1;
       firsts = one.0;

@@ -6,7 +6,8 @@ use Rattle.wire_cut.proofs.cutter.find_cr_lf.Goals.{else-at-gt0-via-then-at-gt0+
 
 pub returns-then-bytes-at-eq-CR : goal.returns-then-bytes-at-eq-CR
 returns-then-bytes-at-eq-CR c =
-    found_at _ _ _ c.loop-offset.invariant.0 c.loop-offset.invariant.1 c.in-Some.ensures (omega arith) c.if-bytes-at-eq-CR.true
+    found_at _ _ _ c.loop-offset.invariant.0 c.loop-offset.invariant.1 c.in-Some.ensures (omega arith)
+    c.if-bytes-at-eq-CR.true
 
 pub loop-offset-preserved : goal.loop-offset-preserved
 loop-offset-preserved c =

@@ -13,8 +13,10 @@ loop-place-preserved g c =
     let same : c.deref-slot-items.result.now ≡ nodes = c.deref-slot-items.ensures.value ∙ c.self.view_is in
     let lt = subst (λ l. i < length l) same c.loop-place-test.true in
     let is = c.slot-item.is ∙ ap (λ l. get_or l i o) same in
-    λ cluster places. settled_on nodes i o lt is c.in-Some.node c.in-Some.is c.args.subject.now all c.is_settled_at.result c.is_settled_at.ensures cluster places
-    (are_settled cluster c.args.subject.now all 0 all) c.if-not-is_settled_at.false (c.loop-place.invariant cluster places)
+    λ cluster places.
+    settled_on nodes i o lt is c.in-Some.node c.in-Some.is c.args.subject.now all c.is_settled_at.result
+    c.is_settled_at.ensures cluster places (are_settled cluster c.args.subject.now all 0 all)
+    c.if-not-is_settled_at.false (c.loop-place.invariant cluster places)
 
 pub returns-then-not-is_settled_at : goal.returns-then-not-is_settled_at
 returns-then-not-is_settled_at g c =
@@ -25,5 +27,7 @@ returns-then-not-is_settled_at g c =
     let same : c.deref-slot-items.result.now ≡ nodes = c.deref-slot-items.ensures.value ∙ c.self.view_is in
     let lt = subst (λ l. i < length l) same c.loop-place-test.true in
     let is = c.slot-item.is ∙ ap (λ l. get_or l i o) same in
-    λ cluster places. settled_not nodes i o lt is c.in-Some.node c.in-Some.is c.args.subject.now all c.is_settled_at.result c.is_settled_at.ensures cluster places
-    (are_settled cluster c.args.subject.now all 0 all) c.if-not-is_settled_at.true (c.loop-place.invariant cluster places)
+    λ cluster places.
+    settled_not nodes i o lt is c.in-Some.node c.in-Some.is c.args.subject.now all c.is_settled_at.result
+    c.is_settled_at.ensures cluster places (are_settled cluster c.args.subject.now all 0 all)
+    c.if-not-is_settled_at.true (c.loop-place.invariant cluster places)

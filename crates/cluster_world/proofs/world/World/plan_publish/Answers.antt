@@ -10,4 +10,8 @@ pub returns : goal.returns
 returns g c =
     let o = c.self.inside in
     let p = publication_by c.args.conn c.args.publication.now c.args.word in
-    IfOk-weaker c.plan.result _ _ (λ plan planned. subst (λ (s : Shown). IsPlannedBy s c.args.node p plan) c.self.view_is (planned_by o.server o.step o.nodes (listed_of o.lists) c.self.invariant.places c.args.node p plan planned)) c.plan.ensures
+    IfOk-weaker c.plan.result _ _
+    (λ plan planned.
+    subst (λ (s : Shown). IsPlannedBy s c.args.node p plan) c.self.view_is
+    (planned_by o.server o.step o.nodes (listed_of o.lists) c.self.invariant.places c.args.node p plan planned))
+    c.plan.ensures

@@ -11,11 +11,16 @@ invariant_of-self g c =
     let o = c.self.inside in
     let l = listed_of c.close_all.new.self in
     subst (λ t. IsKept o.server t (value_of_parts o.server c.args.now t l)) (sym c.put.ensures)
-    (stop_keeps o.server o.step o.nodes (listed_of o.lists) c.args.self.now c.self.view_is c.self.invariant c.carried_lives_are_open.ensures c.steps_keep_worlds_carried.ensures c.args.n c.in-Some.inc c.args.now l c.requires.now c.requires.cause (sym c.in-Some.is ∙ c.inc_at.ensures) c.close_all.ensures)
+    (stop_keeps o.server o.step o.nodes (listed_of o.lists) c.args.self.now c.self.view_is c.self.invariant
+    c.carried_lives_are_open.ensures c.steps_keep_worlds_carried.ensures c.args.n c.in-Some.inc c.args.now l
+    c.requires.now c.requires.cause (sym c.in-Some.is ∙ c.inc_at.ensures) c.close_all.ensures)
 
 pub returns : goal.returns
 returns g c =
     let o = c.self.inside in
     let l = listed_of c.close_all.new.self in
-    subst (λ t. IsStepped c.args.self.now (Stop c.args.n) (Done Nothing) (value_of_parts o.server c.args.now t l)) (sym c.put.ensures)
-    (stop_steps o.server o.step o.nodes (listed_of o.lists) c.args.self.now c.self.view_is c.self.invariant c.carried_lives_are_open.ensures c.args.n c.in-Some.inc c.args.now l c.requires.now c.requires.cause (sym c.in-Some.is ∙ c.inc_at.ensures) c.close_all.ensures)
+    subst (λ t. IsStepped c.args.self.now (Stop c.args.n) (Done Nothing) (value_of_parts o.server c.args.now t l))
+    (sym c.put.ensures)
+    (stop_steps o.server o.step o.nodes (listed_of o.lists) c.args.self.now c.self.view_is c.self.invariant
+    c.carried_lives_are_open.ensures c.args.n c.in-Some.inc c.args.now l c.requires.now c.requires.cause
+    (sym c.in-Some.is ∙ c.inc_at.ensures) c.close_all.ensures)

@@ -13,18 +13,35 @@ invariant_of-self c =
     let i = c.self.inside in
     let old = hub_of_parts i.server i.issued i.published i.changed i.draining i.counts i.peers.items in
     let frame = c.args.frame.now in
-    let cause : receive_refusal old.server old.state c.requires.taken.finished frame ≡ None = subst (λ (h : Hub). receive_refusal h.server h.state c.requires.taken.finished frame ≡ None) (sym c.self.view_is) c.requires.taken.taken in
-    let look = c.peer_place.ensures ∙ ap (λ (name : List ℕ). let o : Option ℕ = if is_peer i.server (place i.server name) then Some (place i.server name) else None in o) c.from.ensures in
-    heard_kept old c.requires.taken.finished frame c.self.invariant cause c.peer_place.result c.unwrap-place.result c.index_mut-peer.result.now c.apply_update.new.self look c.unwrap-place.ensures c.index_mut-peer.ensures.value c.requires.news c.apply_update.result c.apply_update.ensures
+    let cause : receive_refusal old.server old.state c.requires.taken.finished frame ≡ None =
+    subst (λ (h : Hub). receive_refusal h.server h.state c.requires.taken.finished frame ≡ None) (sym c.self.view_is)
+    c.requires.taken.taken in
+    let look = c.peer_place.ensures
+    ∙ ap (λ (name : List ℕ).
+    let o : Option ℕ = if is_peer i.server (place i.server name) then Some (place i.server name) else None in o)
+    c.from.ensures in
+    heard_kept old c.requires.taken.finished frame c.self.invariant cause c.peer_place.result c.unwrap-place.result
+    c.index_mut-peer.result.now c.apply_update.new.self look c.unwrap-place.ensures c.index_mut-peer.ensures.value
+    c.requires.news c.apply_update.result c.apply_update.ensures
 
 pub returns : goal.returns
 returns c =
     let i = c.self.inside in
     let old = hub_of_parts i.server i.issued i.published i.changed i.draining i.counts i.peers.items in
     let frame = c.args.frame.now in
-    let cause : receive_refusal old.server old.state c.requires.taken.finished frame ≡ None = subst (λ (h : Hub). receive_refusal h.server h.state c.requires.taken.finished frame ≡ None) (sym c.self.view_is) c.requires.taken.taken in
-    let look = c.peer_place.ensures ∙ ap (λ (name : List ℕ). let o : Option ℕ = if is_peer i.server (place i.server name) then Some (place i.server name) else None in o) c.from.ensures in
-    let new = hub_of_parts i.server i.issued i.published i.changed i.draining i.counts (slice_set i.peers.items c.unwrap-place.result c.apply_update.new.self) in
-    subst (λ (h : Hub). IsAnswered {R = HubFault} {T = Unit {0}} None (λ _. new ≡ record h { state = after_receive h.server h.state frame }) (new ≡ h) c.apply_update.result)
+    let cause : receive_refusal old.server old.state c.requires.taken.finished frame ≡ None =
+    subst (λ (h : Hub). receive_refusal h.server h.state c.requires.taken.finished frame ≡ None) (sym c.self.view_is)
+    c.requires.taken.taken in
+    let look = c.peer_place.ensures
+    ∙ ap (λ (name : List ℕ).
+    let o : Option ℕ = if is_peer i.server (place i.server name) then Some (place i.server name) else None in o)
+    c.from.ensures in
+    let new = hub_of_parts i.server i.issued i.published i.changed i.draining i.counts
+    (slice_set i.peers.items c.unwrap-place.result c.apply_update.new.self) in
+    subst (λ (h : Hub).
+    IsAnswered {R = HubFault} {T = Unit {0}} None (λ _. new ≡ record h { state = after_receive h.server h.state frame })
+    (new ≡ h) c.apply_update.result)
     c.self.view_is
-    (heard_done old c.requires.taken.finished frame c.self.invariant cause c.peer_place.result c.unwrap-place.result c.index_mut-peer.result.now c.apply_update.new.self look c.unwrap-place.ensures c.index_mut-peer.ensures.value c.requires.news c.apply_update.result c.apply_update.ensures)
+    (heard_done old c.requires.taken.finished frame c.self.invariant cause c.peer_place.result c.unwrap-place.result
+    c.index_mut-peer.result.now c.apply_update.new.self look c.unwrap-place.ensures c.index_mut-peer.ensures.value
+    c.requires.news c.apply_update.result c.apply_update.ensures)

@@ -14,14 +14,19 @@ returns-then-is_empty c = λ shard.
     let i = c.self.inside in
     let old = hub_of_parts i.server i.issued i.published i.changed i.draining i.counts i.peers.items in
     let deltas = c.args.deltas.now in
-    let none : deltas ≡ [] = no_items deltas (eq_true (length deltas) 0 (sym c.is_empty.ensures ∙ c.if-is_empty.true)) in
+    let none : deltas ≡ [] =
+    no_items deltas (eq_true (length deltas) 0 (sym c.is_empty.ensures ∙ c.if-is_empty.true)) in
     let Tells : Hub → List Delta → List Change → List ℕ → Type 0 = λ hub deltas changes cut.
-    (collect_refusal hub.state deltas ≡ None) × DoesStep hub (Collect shard deltas) (Collected changes (collect_frames hub.server hub.state deltas) cut) hub in
+    (collect_refusal hub.state deltas ≡ None)
+    × DoesStep hub (Collect shard deltas) (Collected changes (collect_frames hub.server hub.state deltas) cut) hub in
     let told : Tells old [] [] [] = (nothing_refused old c.self.invariant, nothing_told old c.self.invariant shard) in
     let here : Tells c.args.self.now [] [] [] = subst (λ (hub : Hub). Tells hub [] [] []) c.self.view_is told in
-    let counted : Tells c.args.self.now deltas [] [] = subst (λ (ds : List Delta). Tells c.args.self.now ds [] []) (sym none) here in
-    let changed : Tells c.args.self.now deltas c.nothing.result.changes.items [] = subst (λ (cs : List Change). Tells c.args.self.now deltas cs []) (sym c.nothing.ensures.changes) counted in
-    subst (λ (cut : List ℕ). Tells c.args.self.now deltas c.nothing.result.changes.items cut) (sym c.nothing.ensures.cut) changed
+    let counted : Tells c.args.self.now deltas [] [] =
+    subst (λ (ds : List Delta). Tells c.args.self.now ds [] []) (sym none) here in
+    let changed : Tells c.args.self.now deltas c.nothing.result.changes.items [] =
+    subst (λ (cs : List Change). Tells c.args.self.now deltas cs []) (sym c.nothing.ensures.changes) counted in
+    subst (λ (cut : List ℕ). Tells c.args.self.now deltas c.nothing.result.changes.items cut)
+    (sym c.nothing.ensures.cut) changed
 
 pub returns : goal.returns
 returns c = λ shard. (c.in_ok-plan.ensures.0, c.commit_collect.ensures shard)

@@ -10,14 +10,27 @@ pub put_all-requires-clause-room : goal.put_all-requires-clause-room
 put_all-requires-clause-room c =
     let i = c.self.inside in
     let old = hub_of_parts i.server i.issued i.published i.changed i.draining i.counts i.peers.items in
-    let plan : IsPlanned old.server old.state c.args.frames.items = subst (λ (h : Hub). IsPlanned h.server h.state c.args.frames.items) (sym c.self.view_is) c.requires in
-    subst (λ (peers : List Peer). HasRoomFor old.server c.args.frames.items peers) (sym c.deref_mut.ensures.value) (frames_have_room old c.args.frames.items c.self.invariant plan)
+    let plan : IsPlanned old.server old.state c.args.frames.items =
+    subst (λ (h : Hub). IsPlanned h.server h.state c.args.frames.items) (sym c.self.view_is) c.requires in
+    subst (λ (peers : List Peer). HasRoomFor old.server c.args.frames.items peers) (sym c.deref_mut.ensures.value)
+    (frames_have_room old c.args.frames.items c.self.invariant plan)
 
 pub invariant_of-self : goal.invariant_of-self
 invariant_of-self c =
     let i = c.self.inside in
     let old = hub_of_parts i.server i.issued i.published i.changed i.draining i.counts i.peers.items in
-    let plan : IsPlanned old.server old.state c.args.frames.items = subst (λ (h : Hub). IsPlanned h.server h.state c.args.frames.items) (sym c.self.view_is) c.requires in
-    let new : State = record old.state { issued = c.unwrap-self-inside.result; published = i.published + 1; counts = c.learn.new.self; peers = take i.peers.len (c.put_all.new.peers ++ drop (length c.put_all.new.peers) i.peers.items) } in
-    let put : c.put_all.new.peers ≡ with_frames old.server c.args.frames.items 0 old.state.peers = c.put_all.ensures ∙ ap (λ (peers : List Peer). with_frames old.server c.args.frames.items 0 peers) c.deref_mut.ensures.value in
-    issued_kept old c.args.frames.items c.self.invariant plan new ((λ k. record new { counts = c.learn.ensures k }) ∙ issued_is old c.args.frames.items c.self.invariant plan c.unwrap-self-inside.result i.peers.len c.next.result c.put_all.new.peers c.next.ensures c.unwrap-self-inside.ensures i.peers.ok.0 put)
+    let plan : IsPlanned old.server old.state c.args.frames.items =
+    subst (λ (h : Hub). IsPlanned h.server h.state c.args.frames.items) (sym c.self.view_is) c.requires in
+    let new : State = record old.state {
+      issued = c.unwrap-self-inside.result;
+      published = i.published + 1;
+      counts = c.learn.new.self;
+      peers = take i.peers.len (c.put_all.new.peers ++ drop (length c.put_all.new.peers) i.peers.items);
+    } in
+    let put : c.put_all.new.peers ≡ with_frames old.server c.args.frames.items 0 old.state.peers =
+    c.put_all.ensures
+    ∙ ap (λ (peers : List Peer). with_frames old.server c.args.frames.items 0 peers) c.deref_mut.ensures.value in
+    issued_kept old c.args.frames.items c.self.invariant plan new
+    ((λ k. record new { counts = c.learn.ensures k })
+    ∙ issued_is old c.args.frames.items c.self.invariant plan c.unwrap-self-inside.result i.peers.len c.next.result
+    c.put_all.new.peers c.next.ensures c.unwrap-self-inside.ensures i.peers.ok.0 put)

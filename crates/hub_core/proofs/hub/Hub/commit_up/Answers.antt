@@ -11,16 +11,27 @@ pub invariant_of-self : goal.invariant_of-self
 invariant_of-self c =
     let i = c.self.inside in
     let old = hub_of_parts i.server i.issued i.published i.changed i.draining i.counts i.peers.items in
-    let asked : IsMeeting old.server old.state c.args.place c.args.inc = subst (λ (h : Hub). IsMeeting h.server h.state c.args.place c.args.inc) (sym c.self.view_is) c.requires.meeting in
-    let planned : c.args.snapshot ≡ snapshot_to old.server old.state c.args.place c.args.inc = subst (λ (h : Hub). c.args.snapshot ≡ snapshot_to h.server h.state c.args.place c.args.inc) (sym c.self.view_is) c.requires.planned in
-    met_kept old c.args.place c.args.inc c.args.snapshot c.index_mut-peer.result.now c.know.new.self c.meet.new.self c.self.invariant asked planned c.index_mut-peer.ensures.value c.know.ensures c.meet.ensures
+    let asked : IsMeeting old.server old.state c.args.place c.args.inc =
+    subst (λ (h : Hub). IsMeeting h.server h.state c.args.place c.args.inc) (sym c.self.view_is) c.requires.meeting in
+    let planned : c.args.snapshot ≡ snapshot_to old.server old.state c.args.place c.args.inc =
+    subst (λ (h : Hub). c.args.snapshot ≡ snapshot_to h.server h.state c.args.place c.args.inc) (sym c.self.view_is)
+    c.requires.planned in
+    met_kept old c.args.place c.args.inc c.args.snapshot c.index_mut-peer.result.now c.know.new.self c.meet.new.self
+    c.self.invariant asked planned c.index_mut-peer.ensures.value c.know.ensures c.meet.ensures
 
 pub returns : goal.returns
 returns c =
     let i = c.self.inside in
     let old = hub_of_parts i.server i.issued i.published i.changed i.draining i.counts i.peers.items in
-    let asked : IsMeeting old.server old.state c.args.place c.args.inc = subst (λ (h : Hub). IsMeeting h.server h.state c.args.place c.args.inc) (sym c.self.view_is) c.requires.meeting in
-    let planned : c.args.snapshot ≡ snapshot_to old.server old.state c.args.place c.args.inc = subst (λ (h : Hub). c.args.snapshot ≡ snapshot_to h.server h.state c.args.place c.args.inc) (sym c.self.view_is) c.requires.planned in
-    subst (λ (h : Hub). DoesStep h (Up c.args.place c.args.inc) (IsUp c.args.snapshot) (hub_of_parts i.server i.issued i.published i.changed i.draining i.counts (slice_set i.peers.items c.args.place c.meet.new.self)))
+    let asked : IsMeeting old.server old.state c.args.place c.args.inc =
+    subst (λ (h : Hub). IsMeeting h.server h.state c.args.place c.args.inc) (sym c.self.view_is) c.requires.meeting in
+    let planned : c.args.snapshot ≡ snapshot_to old.server old.state c.args.place c.args.inc =
+    subst (λ (h : Hub). c.args.snapshot ≡ snapshot_to h.server h.state c.args.place c.args.inc) (sym c.self.view_is)
+    c.requires.planned in
+    subst (λ (h : Hub).
+    DoesStep h (Up c.args.place c.args.inc) (IsUp c.args.snapshot)
+    (hub_of_parts i.server i.issued i.published i.changed i.draining i.counts
+    (slice_set i.peers.items c.args.place c.meet.new.self)))
     c.self.view_is
-    (met_done old c.args.place c.args.inc c.args.snapshot c.index_mut-peer.result.now c.know.new.self c.meet.new.self c.self.invariant asked planned c.index_mut-peer.ensures.value c.know.ensures c.meet.ensures)
+    (met_done old c.args.place c.args.inc c.args.snapshot c.index_mut-peer.result.now c.know.new.self c.meet.new.self
+    c.self.invariant asked planned c.index_mut-peer.ensures.value c.know.ensures c.meet.ensures)

@@ -11,6 +11,16 @@ pub returns : goal.returns
 returns c = λ none.
     let server = c.self.inside.server in
     let subject = c.args.subject.now in
-    let state : State = record { issued = c.self.inside.issued; published = c.self.inside.published; changed = c.self.inside.changed; draining = c.self.inside.draining; counts = c.self.inside.counts; peers = c.self.inside.peers.items } in
-    let same = ap (λ (peers : List Peer). has_queue_match subject state.counts || wants_name_from server subject 0 peers) c.deref.ensures.value in
-    subst (λ (hub : Hub). queue_names hub.server hub.state subject ≡ []) c.self.view_is (none_wanted server state subject (sym same ∙ sym c.is_name_wanted.ensures ∙ none))
+    let state : State = record {
+      issued = c.self.inside.issued;
+      published = c.self.inside.published;
+      changed = c.self.inside.changed;
+      draining = c.self.inside.draining;
+      counts = c.self.inside.counts;
+      peers = c.self.inside.peers.items;
+    } in
+    let same = ap
+    (λ (peers : List Peer). has_queue_match subject state.counts || wants_name_from server subject 0 peers)
+    c.deref.ensures.value in
+    subst (λ (hub : Hub). queue_names hub.server hub.state subject ≡ []) c.self.view_is
+    (none_wanted server state subject (sym same ∙ sym c.is_name_wanted.ensures ∙ none))

@@ -12,6 +12,12 @@ pub invariant_of-self : goal.invariant_of-self
 invariant_of-self c =
     let i = c.self.inside in
     let old = hub_of_parts i.server i.issued i.published i.changed i.draining i.counts i.peers.items in
-    let asked : is_peer old.server c.args.place ≡ true = subst (λ (h : Hub). is_peer h.server c.args.place ≡ true) (sym c.self.view_is) c.requires in
-    let is = changed_is (λ (peer : Peer). record peer { up = false }) i.peers.items c.args.place c.index_mut-peer.result.now c.cut.new.self (peer_within old c.args.place c.self.invariant asked) c.index_mut-peer.ensures.value c.cut.ensures in
-    kept_after old.server old.state (Cut c.args.place) (record old.state { peers = slice_set i.peers.items c.args.place c.cut.new.self }) c.self.invariant asked (ap (λ (peers : List Peer). record old.state { peers = peers }) is) c.self.invariant.published c.self.invariant.changed
+    let asked : is_peer old.server c.args.place ≡ true =
+    subst (λ (h : Hub). is_peer h.server c.args.place ≡ true) (sym c.self.view_is) c.requires in
+    let is = changed_is (λ (peer : Peer). record peer { up = false }) i.peers.items c.args.place
+    c.index_mut-peer.result.now c.cut.new.self (peer_within old c.args.place c.self.invariant asked)
+    c.index_mut-peer.ensures.value c.cut.ensures in
+    kept_after old.server old.state (Cut c.args.place)
+    (record old.state { peers = slice_set i.peers.items c.args.place c.cut.new.self }) c.self.invariant asked
+    (ap (λ (peers : List Peer). record old.state { peers = peers }) is) c.self.invariant.published
+    c.self.invariant.changed

@@ -11,9 +11,14 @@ use Rattle.hub_core.proofs.hub.Hub.plan_at.Goals as goal
 
 pub returns-in-Some : goal.returns-in-Some
 returns-in-Some c =
-    let hub = c.args.self.now in let publication = c.args.publication.now in
+    let hub = c.args.self.now in
+    let publication = c.args.publication.now in
     let p = publication_by c.args.conn publication c.args.word in
-    let serves = subst (λ (subject : List ℕ). ServesAlone hub.server hub.state subject c.in-Some.names.now) c.subject-subject.ensures c.in-Some.ensures in
+    let serves = subst (λ (subject : List ℕ). ServesAlone hub.server hub.state subject c.in-Some.names.now)
+    c.subject-subject.ensures c.in-Some.ensures in
     let few = few_alone hub.server hub.state publication.message.subject c.in-Some.names.now serves in
-    subst (λ (cause : Option HubFault). IsAnswered {T = PublishPlan} cause (λ plan. IsPlanOf hub.server hub.state p plan.job plan.frames.items) ⊤ c.plan_alone.result)
-    (sym (ap (λ b. let o : Option HubFault = if b then Some TooManyQueues else None in o) few)) (c.plan_alone.ensures c.args.word)
+    subst (λ (cause : Option HubFault).
+    IsAnswered {T = PublishPlan} cause (λ plan. IsPlanOf hub.server hub.state p plan.job plan.frames.items) ⊤
+    c.plan_alone.result)
+    (sym (ap (λ b. let o : Option HubFault = if b then Some TooManyQueues else None in o) few))
+    (c.plan_alone.ensures c.args.word)

@@ -12,13 +12,19 @@ invariant_of-self-2 c =
     let i = c.self.inside in
     let old = hub_of_parts i.server i.issued i.published i.changed i.draining i.counts i.peers.items in
     let is : is_peer old.server c.args.place ≡ true = sym c.is_peer.ensures.same ∙ c.if-not-is_peer.false in
-    taken_kept old c.args.place c.args.count c.in_ok-frames.frames.items c.index_mut-peer.result.now c.take.new.self c.self.invariant is c.index_mut-peer.ensures.value c.in_ok-frames.ensures.frames c.in_ok-frames.ensures.ok
+    taken_kept old c.args.place c.args.count c.in_ok-frames.frames.items c.index_mut-peer.result.now c.take.new.self
+    c.self.invariant is c.index_mut-peer.ensures.value c.in_ok-frames.ensures.frames c.in_ok-frames.ensures.ok
 
 pub returns : goal.returns
 returns c =
     let i = c.self.inside in
     let old = hub_of_parts i.server i.issued i.published i.changed i.draining i.counts i.peers.items in
     let is : is_peer old.server c.args.place ≡ true = sym c.is_peer.ensures.same ∙ c.if-not-is_peer.false in
-    subst (λ (h : Hub). (take_refusal h.server c.args.place ≡ None) × DoesStep h (TakeFrom c.args.place c.args.count) (Taken c.in_ok-frames.frames.items) (hub_of_parts i.server i.issued i.published i.changed i.draining i.counts (slice_set i.peers.items c.args.place c.take.new.self)))
+    subst (λ (h : Hub).
+    (take_refusal h.server c.args.place ≡ None)
+    × DoesStep h (TakeFrom c.args.place c.args.count) (Taken c.in_ok-frames.frames.items)
+    (hub_of_parts i.server i.issued i.published i.changed i.draining i.counts
+    (slice_set i.peers.items c.args.place c.take.new.self)))
     c.self.view_is
-    (taken_done old c.args.place c.args.count c.in_ok-frames.frames.items c.index_mut-peer.result.now c.take.new.self c.self.invariant is c.index_mut-peer.ensures.value c.in_ok-frames.ensures.frames c.in_ok-frames.ensures.ok)
+    (taken_done old c.args.place c.args.count c.in_ok-frames.frames.items c.index_mut-peer.result.now c.take.new.self
+    c.self.invariant is c.index_mut-peer.ensures.value c.in_ok-frames.ensures.frames c.in_ok-frames.ensures.ok)

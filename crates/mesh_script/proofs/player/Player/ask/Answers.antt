@@ -12,8 +12,20 @@ returns-clause-asks g c = λ more.
     let outcome = outcome_of c.in_ok-outcome.outcome in
     let was = g.S.Sink.written c.args.sink.now in
     let is = g.S.Sink.written c.flush_much.new.sink in
-    let old : PlayState = record { cluster = c.self.inside.world.cluster; world = c.self.inside.world.world; number = c.self.inside.number; text = c.self.inside.output } in
-    let new : PlayState = record { cluster = c.step.new.self.cluster; world = c.step.new.self.world; number = c.in-Some.number; text = c.put_line.new.output } in
-    let puts = puts_behind old.text c.flush_much.new.self _ new.text _ was is c.in_ok-flush_much.ensures.text c.in_ok-put_line.ensures in
+    let old : PlayState = record {
+      cluster = c.self.inside.world.cluster;
+      world = c.self.inside.world.world;
+      number = c.self.inside.number;
+      text = c.self.inside.output;
+    } in
+    let new : PlayState = record {
+      cluster = c.step.new.self.cluster;
+      world = c.step.new.self.world;
+      number = c.in-Some.number;
+      text = c.put_line.new.output;
+    } in
+    let puts = puts_behind old.text c.flush_much.new.self _ new.text _ was is c.in_ok-flush_much.ensures.text
+    c.in_ok-put_line.ensures in
     subst (λ (s : PlayState). Moves s was (Ask e more) (more s.world outcome) new is) c.self.view_is
-    (moved_one old new was is e outcome c.in_ok-outcome.ensures.ok.cluster c.in_ok-outcome.ensures.ok.step c.in-Some.ensures.1 puts more)
+    (moved_one old new was is e outcome c.in_ok-outcome.ensures.ok.cluster c.in_ok-outcome.ensures.ok.step
+    c.in-Some.ensures.1 puts more)

@@ -7,6 +7,7 @@ use Rattle.mesh_script.proofs.player.Player.work.Given as goal
 -- the events so far were made, and placed so many messages
 abbrev pub invariant-loop-event : goal.invariant-loop-event
 invariant-loop-event g l = record {
-  moves : Moves l.fn.self (g.S.Sink.written l.fn.sink) (work_asks (map event_of l.events) 0) (work_asks (map event_of (drop l.event-index l.events)) l.placed) l.self (g.S.Sink.written l.sink);
+  moves : Moves l.fn.self (g.S.Sink.written l.fn.sink) (work_asks (map event_of l.events) 0)
+      (work_asks (map event_of (drop l.event-index l.events)) l.placed) l.self (g.S.Sink.written l.sink);
   failures : g.S.Sink.failures l.sink ≡ g.S.Sink.failures l.fn.sink;
 }

@@ -7,7 +7,17 @@ use Rattle.node_core.specs.Served.{refusal}
 use Rattle.node_core.proofs.node.Node.answer.Goals as goal
 
 pub returns-in-OnInfo : goal.returns-in-OnInfo
-returns-in-OnInfo g c = subst (λ (e : NodeEvent). IsAnswered (refusal c.args.self.now (event_of e)) (λ x. Answers c.args.self.now (event_of e) (answer_of x) c.answer_of_info.new.self) (c.answer_of_info.new.self ≡ c.args.self.now) c.answer_of_info.result) (sym c.in-OnInfo.is) c.answer_of_info.ensures
+returns-in-OnInfo g c =
+    subst (λ (e : NodeEvent).
+    IsAnswered (refusal c.args.self.now (event_of e))
+    (λ x. Answers c.args.self.now (event_of e) (answer_of x) c.answer_of_info.new.self)
+    (c.answer_of_info.new.self ≡ c.args.self.now) c.answer_of_info.result)
+    (sym c.in-OnInfo.is) c.answer_of_info.ensures
 
 pub returns-in-OnConnect : goal.returns-in-OnConnect
-returns-in-OnConnect g c = subst (λ (e : NodeEvent). IsAnswered (refusal c.args.self.now (event_of e)) (λ x. Answers c.args.self.now (event_of e) (answer_of x) c.answer_of_connect.new.self) (c.answer_of_connect.new.self ≡ c.args.self.now) c.answer_of_connect.result) (sym c.in-OnConnect.is) c.answer_of_connect.ensures
+returns-in-OnConnect g c =
+    subst (λ (e : NodeEvent).
+    IsAnswered (refusal c.args.self.now (event_of e))
+    (λ x. Answers c.args.self.now (event_of e) (answer_of x) c.answer_of_connect.new.self)
+    (c.answer_of_connect.new.self ≡ c.args.self.now) c.answer_of_connect.result)
+    (sym c.in-OnConnect.is) c.answer_of_connect.ensures

@@ -17,9 +17,15 @@ invariant_of-self g c =
     let x = c.index_mut-line.result.now in
     let count : c.len.result ≡ length lines = c.len.ensures ∙ old.lines.ok.0 in
     let within : c.in-Some.place < length lines = subst (λ n. c.in-Some.place < n) count c.in-Some.ensures.within in
-    let here : slice_get lines c.in-Some.place ≡ Some x = slice_get-get_or lines c.in-Some.place x within ∙ ap Some (sym c.index_mut-line.ensures.value) in
+    let here : slice_get lines c.in-Some.place ≡ Some x =
+    slice_get-get_or lines c.in-Some.place x within ∙ ap Some (sym c.index_mut-line.ensures.value) in
     let before = served_of_parts old.side (g.R.Race.contents old.race) lines in
-    let called = work_call old.side (g.R.Race.contents old.race) lines c.args.shard c.len.result c.in-Some.place c.place_of_shard.result Begin x c.begin.new.self (λ begun. LineBegins c.args.copies x begun c.begin.new.self) (λ begun. IsToldAt c.args.copies (shard_line before.node c.args.shard) begun) c.begin.result c.self.invariant count c.place_of_shard.ensures.place c.in-Some.is here refl (λ begun d. d.after ∙ sym (ap (λ o. line_after_if (begin_of o) x) d.first)) (λ is begun d. subst (λ o. IsToldAt c.args.copies o begun) (sym is) (d.job, d.first, d.told)) c.begin.ensures in
+    let called = work_call old.side (g.R.Race.contents old.race) lines c.args.shard c.len.result c.in-Some.place
+    c.place_of_shard.result Begin x c.begin.new.self (λ begun. LineBegins c.args.copies x begun c.begin.new.self)
+    (λ begun. IsToldAt c.args.copies (shard_line before.node c.args.shard) begun) c.begin.result c.self.invariant count
+    c.place_of_shard.ensures.place c.in-Some.is here refl
+    (λ begun d. d.after ∙ sym (ap (λ o. line_after_if (begin_of o) x) d.first))
+    (λ is begun d. subst (λ o. IsToldAt c.args.copies o begun) (sym is) (d.job, d.first, d.told)) c.begin.ensures in
     called.keeps
 
 pub returns : goal.returns
@@ -29,16 +35,35 @@ returns g c =
     let x = c.index_mut-line.result.now in
     let count : c.len.result ≡ length lines = c.len.ensures ∙ old.lines.ok.0 in
     let within : c.in-Some.place < length lines = subst (λ n. c.in-Some.place < n) count c.in-Some.ensures.within in
-    let here : slice_get lines c.in-Some.place ≡ Some x = slice_get-get_or lines c.in-Some.place x within ∙ ap Some (sym c.index_mut-line.ensures.value) in
+    let here : slice_get lines c.in-Some.place ≡ Some x =
+    slice_get-get_or lines c.in-Some.place x within ∙ ap Some (sym c.index_mut-line.ensures.value) in
     let before = served_of_parts old.side (g.R.Race.contents old.race) lines in
-    let called = work_call old.side (g.R.Race.contents old.race) lines c.args.shard c.len.result c.in-Some.place c.place_of_shard.result Begin x c.begin.new.self (λ begun. LineBegins c.args.copies x begun c.begin.new.self) (λ begun. IsToldAt c.args.copies (shard_line before.node c.args.shard) begun) c.begin.result c.self.invariant count c.place_of_shard.ensures.place c.in-Some.is here refl (λ begun d. d.after ∙ sym (ap (λ o. line_after_if (begin_of o) x) d.first)) (λ is begun d. subst (λ o. IsToldAt c.args.copies o begun) (sym is) (d.job, d.first, d.told)) c.begin.ensures in
+    let called = work_call old.side (g.R.Race.contents old.race) lines c.args.shard c.len.result c.in-Some.place
+    c.place_of_shard.result Begin x c.begin.new.self (λ begun. LineBegins c.args.copies x begun c.begin.new.self)
+    (λ begun. IsToldAt c.args.copies (shard_line before.node c.args.shard) begun) c.begin.result c.self.invariant count
+    c.place_of_shard.ensures.place c.in-Some.is here refl
+    (λ begun d. d.after ∙ sym (ap (λ o. line_after_if (begin_of o) x) d.first))
+    (λ is begun d. subst (λ o. IsToldAt c.args.copies o begun) (sym is) (d.job, d.first, d.told)) c.begin.ensures in
     let after = served_of_parts old.side (g.R.Race.contents old.race) (set lines c.in-Some.place c.begin.new.self) in
-    subst (λ s. IsAnswered (refusal s (Own (AtShard c.args.shard Begin))) (λ y. BeginStep c.args.copies s c.args.shard y after) (after ≡ s) c.begin.result) c.self.view_is
-    (reworded (refusal before (Own (AtShard c.args.shard Begin))) (after ≡ before) (λ y. DoesStep before (Own (AtShard c.args.shard Begin)) false after × IsToldAt c.args.copies (shard_line before.node c.args.shard) y) (λ y. BeginStep c.args.copies before c.args.shard y after) c.begin.result (λ y d. record { step = d.0; told = d.1 }) called.answers)
+    subst (λ s.
+    IsAnswered (refusal s (Own (AtShard c.args.shard Begin))) (λ y. BeginStep c.args.copies s c.args.shard y after)
+    (after ≡ s) c.begin.result)
+    c.self.view_is
+    (reworded (refusal before (Own (AtShard c.args.shard Begin))) (after ≡ before)
+    (λ y.
+    DoesStep before (Own (AtShard c.args.shard Begin)) false after
+    × IsToldAt c.args.copies (shard_line before.node c.args.shard) y)
+    (λ y. BeginStep c.args.copies before c.args.shard y after) c.begin.result (λ y d. record { step = d.0; told = d.1 })
+    called.answers)
 
 pub returns-in_default : goal.returns-in_default
 returns-in_default g c =
     let old = c.self.inside in
     let race = g.R.Race.contents old.race in
-    let lines = old.lines.items in
-    (subst (λ s. refusal s (Own (AtShard c.args.shard Begin)) ≡ Some NoShard) c.self.view_is (ap (work_refusal Begin) (no_shard (served_of_parts old.side race lines).node c.args.shard c.len.result c.place_of_shard.result (c.len.ensures ∙ old.lines.ok.0) c.place_of_shard.ensures.place c.in_default.is)), refl)
+    let lines = old.lines.items in (
+      subst (λ s. refusal s (Own (AtShard c.args.shard Begin)) ≡ Some NoShard) c.self.view_is
+          (ap (work_refusal Begin)
+          (no_shard (served_of_parts old.side race lines).node c.args.shard c.len.result c.place_of_shard.result
+          (c.len.ensures ∙ old.lines.ok.0) c.place_of_shard.ensures.place c.in_default.is)),
+      refl,
+    )

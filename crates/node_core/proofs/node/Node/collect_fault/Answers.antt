@@ -17,9 +17,16 @@ returns g c =
     let x = c.index-line.result.now in
     let count : c.len.result ≡ length lines = c.len.ensures ∙ old.lines.ok.0 in
     let within : c.in-Some.place < length lines = subst (λ n. c.in-Some.place < n) count c.in-Some.ensures.within in
-    let here : slice_get lines c.in-Some.place ≡ Some x = slice_get-get_or lines c.in-Some.place x within ∙ ap Some (sym c.index-line.ensures) in
+    let here : slice_get lines c.in-Some.place ≡ Some x =
+    slice_get-get_or lines c.in-Some.place x within ∙ ap Some (sym c.index-line.ensures) in
     let before = served_of_parts old.side (g.R.Race.contents old.race) lines in
-    let p = shard_found before.node c.args.shard c.len.result c.in-Some.place c.place_of_shard.result x count c.place_of_shard.ensures.place c.in-Some.is here in
+    let p = shard_found before.node c.args.shard c.len.result c.in-Some.place c.place_of_shard.result x count
+    c.place_of_shard.ensures.place c.in-Some.is here in
     let cause = collect_refusal c.hub.result.now.state c.deltas.result.now in
-    let causes : option_map node_fault.Hub cause ≡ refusal before (Own (Collect c.args.shard)) = (λ k. option_map node_fault.Hub (collect_refusal (c.hub.ensures.state k) (c.deltas.ensures k))) ∙ sym (ap (collect_refusal_at old.side.hub) p.is) in
-    c.of_hub_fault.ensures ∙ ap (option_map node_fault.Hub) c.collect_fault.ensures ∙ causes ∙ ap (λ (s : Served). refusal s (Own (Collect c.args.shard))) c.self.view_is
+    let causes : option_map node_fault.Hub cause ≡ refusal before (Own (Collect c.args.shard)) =
+    (λ k. option_map node_fault.Hub (collect_refusal (c.hub.ensures.state k) (c.deltas.ensures k)))
+    ∙ sym (ap (collect_refusal_at old.side.hub) p.is) in
+    c.of_hub_fault.ensures
+    ∙ ap (option_map node_fault.Hub) c.collect_fault.ensures
+    ∙ causes
+    ∙ ap (λ (s : Served). refusal s (Own (Collect c.args.shard))) c.self.view_is

@@ -20,13 +20,25 @@ returns-in-Err g c =
     let x = c.index-line.result.now in
     let count : c.len.result ≡ length lines = c.len.ensures ∙ old.lines.ok.0 in
     let within : c.in-Some.place < length lines = subst (λ n. c.in-Some.place < n) count c.in-Some.ensures.within in
-    let here : slice_get lines c.in-Some.place ≡ Some x = slice_get-get_or lines c.in-Some.place x within ∙ ap Some (sym c.index-line.ensures) in
+    let here : slice_get lines c.in-Some.place ≡ Some x =
+    slice_get-get_or lines c.in-Some.place x within ∙ ap Some (sym c.index-line.ensures) in
     let before = served_of_parts old.side (g.R.Race.contents old.race) lines in
-    let p = shard_found before.node c.args.shard c.len.result c.in-Some.place c.place_of_shard.result x count c.place_of_shard.ensures.place c.in-Some.is here in
+    let p = shard_found before.node c.args.shard c.len.result c.in-Some.place c.place_of_shard.result x count
+    c.place_of_shard.ensures.place c.in-Some.is here in
     let cause = collect_refusal c.hub.result.now.state c.deltas.result.now in
-    let causes : option_map node_fault.Hub cause ≡ refusal before (Own (Collect c.args.shard)) = (λ k. option_map node_fault.Hub (collect_refusal (c.hub.ensures.state k) (c.deltas.ensures k))) ∙ sym (ap (collect_refusal_at old.side.hub) p.is) in
-    subst (λ (s : Served). IsAnswered (refusal s (Own (Collect c.args.shard))) (λ fs. fs.items ≡ node_frames s.server s.node (Own (Collect c.args.shard))) ⊤ c.of_hub.result) c.self.view_is
-    (subst (λ o. IsAnswered o (λ fs. fs.items ≡ node_frames before.server before.node (Own (Collect c.args.shard))) ⊤ c.of_hub.result) causes (hub_refuses cause (λ fs. fs.items ≡ node_frames before.server before.node (Own (Collect c.args.shard))) ⊤ c.in-Err.fault c.of_hub.result c.of_hub.ensures c.in-Err.ensures))
+    let causes : option_map node_fault.Hub cause ≡ refusal before (Own (Collect c.args.shard)) =
+    (λ k. option_map node_fault.Hub (collect_refusal (c.hub.ensures.state k) (c.deltas.ensures k)))
+    ∙ sym (ap (collect_refusal_at old.side.hub) p.is) in
+    subst (λ (s : Served).
+    IsAnswered (refusal s (Own (Collect c.args.shard)))
+    (λ fs. fs.items ≡ node_frames s.server s.node (Own (Collect c.args.shard))) ⊤ c.of_hub.result)
+    c.self.view_is
+    (subst (λ o.
+    IsAnswered o (λ fs. fs.items ≡ node_frames before.server before.node (Own (Collect c.args.shard))) ⊤
+    c.of_hub.result)
+    causes
+    (hub_refuses cause (λ fs. fs.items ≡ node_frames before.server before.node (Own (Collect c.args.shard))) ⊤
+    c.in-Err.fault c.of_hub.result c.of_hub.ensures c.in-Err.ensures))
 
 pub returns : goal.returns
 returns g c =
@@ -35,11 +47,21 @@ returns g c =
     let x = c.index-line.result.now in
     let count : c.len.result ≡ length lines = c.len.ensures ∙ old.lines.ok.0 in
     let within : c.in-Some.place < length lines = subst (λ n. c.in-Some.place < n) count c.in-Some.ensures.within in
-    let here : slice_get lines c.in-Some.place ≡ Some x = slice_get-get_or lines c.in-Some.place x within ∙ ap Some (sym c.index-line.ensures) in
+    let here : slice_get lines c.in-Some.place ≡ Some x =
+    slice_get-get_or lines c.in-Some.place x within ∙ ap Some (sym c.index-line.ensures) in
     let before = served_of_parts old.side (g.R.Race.contents old.race) lines in
-    let p = shard_found before.node c.args.shard c.len.result c.in-Some.place c.place_of_shard.result x count c.place_of_shard.ensures.place c.in-Some.is here in
+    let p = shard_found before.node c.args.shard c.len.result c.in-Some.place c.place_of_shard.result x count
+    c.place_of_shard.ensures.place c.in-Some.is here in
     let cause = collect_refusal c.hub.result.now.state c.deltas.result.now in
-    let causes : option_map node_fault.Hub cause ≡ refusal before (Own (Collect c.args.shard)) = (λ k. option_map node_fault.Hub (collect_refusal (c.hub.ensures.state k) (c.deltas.ensures k))) ∙ sym (ap (collect_refusal_at old.side.hub) p.is) in
-    let sent = c.in-Ok.ensures.1 ∙ (λ k. collect_frames (c.hub.ensures.server k) (c.hub.ensures.state k) ((c.deltas.ensures ∙ sym (ap deltas_at p.is)) k)) in
-    subst (λ (s : Served). (refusal s (Own (Collect c.args.shard)) ≡ None) × (c.in-Ok-route_frames.frames.items ≡ node_frames s.server s.node (Own (Collect c.args.shard)))) c.self.view_is
-    (sym causes ∙ ap (option_map node_fault.Hub) c.in-Ok.ensures.0, c.in-Ok-route_frames.ensures ∙ ap (map route.Numbered) sent)
+    let causes : option_map node_fault.Hub cause ≡ refusal before (Own (Collect c.args.shard)) =
+    (λ k. option_map node_fault.Hub (collect_refusal (c.hub.ensures.state k) (c.deltas.ensures k)))
+    ∙ sym (ap (collect_refusal_at old.side.hub) p.is) in
+    let sent = c.in-Ok.ensures.1 ∙ (λ k.
+    collect_frames (c.hub.ensures.server k) (c.hub.ensures.state k) ((c.deltas.ensures ∙ sym (ap deltas_at p.is)) k)) in
+    subst (λ (s : Served).
+    (refusal s (Own (Collect c.args.shard)) ≡ None)
+    × (c.in-Ok-route_frames.frames.items ≡ node_frames s.server s.node (Own (Collect c.args.shard))))
+    c.self.view_is (
+      sym causes ∙ ap (option_map node_fault.Hub) c.in-Ok.ensures.0,
+      c.in-Ok-route_frames.ensures ∙ ap (map route.Numbered) sent,
+    )

@@ -14,6 +14,18 @@ returns g c =
     let x = c.args.info.now in
     let old = c.args.self.now in
     let snapshot = c.in_ok-snapshot.snapshot in
-    let is : snapshot ≡ option_map (λ q. snapshot_to old.server old.node.hub q x.inc) (peer_by_name old.server x.server_name) = c.in_ok-snapshot.ensures ∙ ap (λ (s : Served). option_map (λ q. snapshot_to s.server s.node.hub q c.inc.result) (peer_by_name s.server c.server_name.result)) c.self.view_is ∙ (λ k. option_map (λ q. snapshot_to old.server old.node.hub q (c.inc.ensures k)) (peer_by_name old.server (c.server_name.ensures k))) in
-    let told = c.of_frames.ensures ∙ ap (bare (Kept c.in_ok-kept.kept.instead_of)) c.sent_on_info-frames.ensures in
-    (c.in_ok-kept.ensures.0, subst (λ (o : Outcome). Does old (OnInfo c.args.session x) o c.info.new.self) (sym told) (info_does old c.info.new.self c.args.session x c.in_ok-kept.kept.instead_of c.in_ok-kept.connect snapshot is c.in_ok-kept.ensures.1))
+    let is :
+    snapshot ≡ option_map (λ q. snapshot_to old.server old.node.hub q x.inc) (peer_by_name old.server x.server_name) =
+    c.in_ok-snapshot.ensures
+    ∙ ap (λ (s : Served).
+    option_map (λ q. snapshot_to s.server s.node.hub q c.inc.result) (peer_by_name s.server c.server_name.result))
+    c.self.view_is
+    ∙ (λ k.
+    option_map (λ q. snapshot_to old.server old.node.hub q (c.inc.ensures k))
+    (peer_by_name old.server (c.server_name.ensures k))) in
+    let told = c.of_frames.ensures ∙ ap (bare (Kept c.in_ok-kept.kept.instead_of)) c.sent_on_info-frames.ensures in (
+      c.in_ok-kept.ensures.0,
+      subst (λ (o : Outcome). Does old (OnInfo c.args.session x) o c.info.new.self) (sym told)
+          (info_does old c.info.new.self c.args.session x c.in_ok-kept.kept.instead_of c.in_ok-kept.connect snapshot is
+          c.in_ok-kept.ensures.1),
+    )

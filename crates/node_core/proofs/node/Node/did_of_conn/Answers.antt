@@ -16,6 +16,13 @@ returns-in_ok-entries-in-Take g c =
     let conn = c.args.conn in
     let entries = c.in_ok-entries-in-Take.entries.items in
     let told = c.in_ok-entries-in-Take.ensures in
-    let does = take_does old new conn c.in-Take.count (TakenEntries entries) (conn_answers old new conn (Take c.in-Take.count) (Taken entries) told.1) in
-    subst (λ e. (refusal old (Own (OfConn conn e)) ≡ None) × Does old (Own (OfConn conn e)) (did_of c.answer_alone-in-Take.result) new) (sym c.in-Take.is)
-    (told.0, subst (λ did. Does old (Own (OfConn conn (Take c.in-Take.count))) did new) (sym c.answer_alone-in-Take.ensures) does)
+    let does = take_does old new conn c.in-Take.count (TakenEntries entries)
+    (conn_answers old new conn (Take c.in-Take.count) (Taken entries) told.1) in
+    subst (λ e.
+    (refusal old (Own (OfConn conn e)) ≡ None)
+    × Does old (Own (OfConn conn e)) (did_of c.answer_alone-in-Take.result) new)
+    (sym c.in-Take.is) (
+      told.0,
+      subst (λ did. Does old (Own (OfConn conn (Take c.in-Take.count))) did new) (sym c.answer_alone-in-Take.ensures)
+          does,
+    )

@@ -11,15 +11,23 @@ use Rattle.node_core.proofs.node.Node.receive_fault.Goals as goal
 pub finished_by-finished-requires-clause-all : goal.finished_by-finished-requires-clause-all
 finished_by-finished-requires-clause-all g c =
     let old = c.self.inside in
-    (are_counted (served_of_parts old.side (g.R.Race.contents old.race) old.lines.items) c.len-count.result c.self.invariant (c.len-count.ensures ∙ old.lines.ok.0)).all
+    (are_counted (served_of_parts old.side (g.R.Race.contents old.race) old.lines.items) c.len-count.result
+    c.self.invariant (c.len-count.ensures ∙ old.lines.ok.0)).all
 
 pub finished_by-finished-requires-clause-few : goal.finished_by-finished-requires-clause-few
 finished_by-finished-requires-clause-few g c =
     let old = c.self.inside in
-    (are_counted (served_of_parts old.side (g.R.Race.contents old.race) old.lines.items) c.len-count.result c.self.invariant (c.len-count.ensures ∙ old.lines.ok.0)).few
+    (are_counted (served_of_parts old.side (g.R.Race.contents old.race) old.lines.items) c.len-count.result
+    c.self.invariant (c.len-count.ensures ∙ old.lines.ok.0)).few
 
 pub returns : goal.returns
 returns g c =
     let old = c.self.inside in
     let before = served_of_parts old.side (g.R.Race.contents old.race) old.lines.items in
-    c.of_hub_fault.ensures ∙ ap (option_map node_fault.Hub) (c.receive_fault.ensures ∙ (λ k. receive_refusal (c.hub.ensures.server k) (c.hub.ensures.state k) c.finished_by-finished.result c.args.frame.now) ∙ receive_heard before c.args.frame.now c.len-count.result c.finished_by-finished.result c.self.invariant (c.len-count.ensures ∙ old.lines.ok.0) c.finished_by-finished.ensures) ∙ ap (λ (s : Served). refusal s (Receive c.args.frame.now)) c.self.view_is
+    c.of_hub_fault.ensures
+    ∙ ap (option_map node_fault.Hub)
+    (c.receive_fault.ensures ∙ (λ k.
+    receive_refusal (c.hub.ensures.server k) (c.hub.ensures.state k) c.finished_by-finished.result c.args.frame.now)
+    ∙ receive_heard before c.args.frame.now c.len-count.result c.finished_by-finished.result c.self.invariant
+    (c.len-count.ensures ∙ old.lines.ok.0) c.finished_by-finished.ensures)
+    ∙ ap (λ (s : Served). refusal s (Receive c.args.frame.now)) c.self.view_is

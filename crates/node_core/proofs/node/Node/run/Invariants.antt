@@ -7,7 +7,8 @@ use Rattle.node_core.proofs.node.Node.run.Given as goal
 
 abbrev pub invariant-loop-event : goal.invariant-loop-event
 invariant-loop-event g l = record {
-  begun : IsBegun l.fn.self (map event_of l.events) (map outcome_told l.answers.items) l.self (map event_of (drop l.event-index l.events));
+  begun : IsBegun l.fn.self (map event_of l.events) (map outcome_told l.answers.items) l.self
+      (map event_of (drop l.event-index l.events));
   count : vec_len l.answers ≡ l.event-index;
   room : length l.events ≤ vec_capacity l.answers;
 }

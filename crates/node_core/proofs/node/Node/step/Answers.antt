@@ -7,4 +7,8 @@ use Rattle.node_core.specs.Served.{refusal}
 use Rattle.node_core.proofs.node.Node.step.Goals as goal
 
 pub returns : goal.returns
-returns g c = subst (λ (e : NodeEvent). IsAnswered (refusal c.args.self.now e) (λ did. Does c.args.self.now e (did_of did) c.step_of.new.self) (c.step_of.new.self ≡ c.args.self.now) (result_in_code c.step_of.result)) c.lend.ensures c.step_of.ensures
+returns g c =
+    subst (λ (e : NodeEvent).
+    IsAnswered (refusal c.args.self.now e) (λ did. Does c.args.self.now e (did_of did) c.step_of.new.self)
+    (c.step_of.new.self ≡ c.args.self.now) (result_in_code c.step_of.result))
+    c.lend.ensures c.step_of.ensures

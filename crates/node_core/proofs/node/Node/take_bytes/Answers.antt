@@ -21,8 +21,12 @@ invariant_of-self g c =
     let x = c.index_mut-line.result.now in
     let count : c.len.result ≡ length lines = c.len.ensures ∙ old.lines.ok.0 in
     let within : c.in-Some.place < length lines = subst (λ n. c.in-Some.place < n) count c.in-Some.ensures.within in
-    let here : slice_get lines c.in-Some.place ≡ Some x = slice_get-get_or lines c.in-Some.place x within ∙ ap Some (sym c.index_mut-line.ensures.value) in
-    (conn_call old.side (g.R.Race.contents old.race) lines c.args.conn c.len.result c.in-Some.place c.place_of_conn.result (Take c.args.count) x c.take_bytes.new.self (λ (taken : ℕ). Taken (first_entries x c.args.conn c.args.count)) c.take_bytes.result c.self.invariant count c.place_of_conn.ensures.place c.in-Some.is here
+    let here : slice_get lines c.in-Some.place ≡ Some x =
+    slice_get-get_or lines c.in-Some.place x within ∙ ap Some (sym c.index_mut-line.ensures.value) in
+    (conn_call old.side (g.R.Race.contents old.race) lines c.args.conn c.len.result c.in-Some.place
+    c.place_of_conn.result (Take c.args.count) x c.take_bytes.new.self
+    (λ (taken : ℕ). Taken (first_entries x c.args.conn c.args.count)) c.take_bytes.result c.self.invariant count
+    c.place_of_conn.ensures.place c.in-Some.is here
     (line_takes x c.take_bytes.new.self c.args.conn c.args.count _ _ c.take_bytes.result c.take_bytes.ensures)).keeps
 
 pub returns : goal.returns
@@ -31,14 +35,25 @@ returns g c =
     let lines = old.lines.items in
     let x = c.index_mut-line.result.now in
     let e = Take c.args.count in
-    let after = served_of_parts old.side (g.R.Race.contents old.race) (set lines c.in-Some.place c.take_bytes.new.self) in
+    let after =
+    served_of_parts old.side (g.R.Race.contents old.race) (set lines c.in-Some.place c.take_bytes.new.self) in
     let count : c.len.result ≡ length lines = c.len.ensures ∙ old.lines.ok.0 in
     let within : c.in-Some.place < length lines = subst (λ n. c.in-Some.place < n) count c.in-Some.ensures.within in
-    let here : slice_get lines c.in-Some.place ≡ Some x = slice_get-get_or lines c.in-Some.place x within ∙ ap Some (sym c.index_mut-line.ensures.value) in
-    let done = (conn_call old.side (g.R.Race.contents old.race) lines c.args.conn c.len.result c.in-Some.place c.place_of_conn.result e x c.take_bytes.new.self (λ (taken : ℕ). Taken (first_entries x c.args.conn c.args.count)) c.take_bytes.result c.self.invariant count c.place_of_conn.ensures.place c.in-Some.is here
-    (line_takes x c.take_bytes.new.self c.args.conn c.args.count _ _ c.take_bytes.result c.take_bytes.ensures)).answers in
-    subst (λ s. IsAnswered (refusal s (Own (OfConn c.args.conn e))) (λ taken. TakesBytes s c.args.conn c.args.count taken c.args.out.now.items c.take_bytes.new.out.items after) ((after ≡ s) × (c.take_bytes.new.out.items ≡ c.args.out.now.items)) c.take_bytes.result) c.self.view_is
-    (takes_bytes _ after x c.take_bytes.new.self c.args.conn c.args.count _ _ _ c.take_bytes.result c.take_bytes.ensures done)
+    let here : slice_get lines c.in-Some.place ≡ Some x =
+    slice_get-get_or lines c.in-Some.place x within ∙ ap Some (sym c.index_mut-line.ensures.value) in
+    let done =
+    (conn_call old.side (g.R.Race.contents old.race) lines c.args.conn c.len.result c.in-Some.place
+    c.place_of_conn.result e x c.take_bytes.new.self (λ (taken : ℕ). Taken (first_entries x c.args.conn c.args.count))
+    c.take_bytes.result c.self.invariant count c.place_of_conn.ensures.place c.in-Some.is here
+    (line_takes x c.take_bytes.new.self c.args.conn c.args.count _ _ c.take_bytes.result
+    c.take_bytes.ensures)).answers in
+    subst (λ s.
+    IsAnswered (refusal s (Own (OfConn c.args.conn e)))
+    (λ taken. TakesBytes s c.args.conn c.args.count taken c.args.out.now.items c.take_bytes.new.out.items after)
+    ((after ≡ s) × (c.take_bytes.new.out.items ≡ c.args.out.now.items)) c.take_bytes.result)
+    c.self.view_is
+    (takes_bytes _ after x c.take_bytes.new.self c.args.conn c.args.count _ _ _ c.take_bytes.result c.take_bytes.ensures
+    done)
 
 pub returns-in_default : goal.returns-in_default
 returns-in_default g c =

@@ -18,8 +18,12 @@ invariant_of-self g c =
     let x = c.index_mut-line.result.now in
     let count : c.len.result ≡ length lines = c.len.ensures ∙ old.lines.ok.0 in
     let within : c.in-Some.place < length lines = subst (λ n. c.in-Some.place < n) count c.in-Some.ensures.within in
-    let here : slice_get lines c.in-Some.place ≡ Some x = slice_get-get_or lines c.in-Some.place x within ∙ ap Some (sym c.index_mut-line.ensures.value) in
-    (conn_decision old.side (g.R.Race.contents old.race) lines c.args.conn c.len.result c.in-Some.place c.place_of_conn.result (Unsubscribe c.args.sid.now c.args.max) x c.unsubscribe.new.self (λ ended. Unsubscribed (option_to_list ended)) c.unsubscribe.result c.self.invariant count c.place_of_conn.ensures.place c.in-Some.is here c.unsubscribe.ensures).keeps
+    let here : slice_get lines c.in-Some.place ≡ Some x =
+    slice_get-get_or lines c.in-Some.place x within ∙ ap Some (sym c.index_mut-line.ensures.value) in
+    (conn_decision old.side (g.R.Race.contents old.race) lines c.args.conn c.len.result c.in-Some.place
+    c.place_of_conn.result (Unsubscribe c.args.sid.now c.args.max) x c.unsubscribe.new.self
+    (λ ended. Unsubscribed (option_to_list ended)) c.unsubscribe.result c.self.invariant count
+    c.place_of_conn.ensures.place c.in-Some.is here c.unsubscribe.ensures).keeps
 
 pub returns : goal.returns
 returns g c =
@@ -27,22 +31,33 @@ returns g c =
     let lines = old.lines.items in
     let x = c.index_mut-line.result.now in
     let e = Unsubscribe c.args.sid.now c.args.max in
-    let after = served_of_parts old.side (g.R.Race.contents old.race) (set lines c.in-Some.place c.unsubscribe.new.self) in
+    let after =
+    served_of_parts old.side (g.R.Race.contents old.race) (set lines c.in-Some.place c.unsubscribe.new.self) in
     let count : c.len.result ≡ length lines = c.len.ensures ∙ old.lines.ok.0 in
     let within : c.in-Some.place < length lines = subst (λ n. c.in-Some.place < n) count c.in-Some.ensures.within in
-    let here : slice_get lines c.in-Some.place ≡ Some x = slice_get-get_or lines c.in-Some.place x within ∙ ap Some (sym c.index_mut-line.ensures.value) in
-    subst (λ s. IsDecided (refusal s (Own (OfConn c.args.conn e))) (λ y. ConnStep s c.args.conn e (Unsubscribed (option_to_list y)) after) (after ≡ s) c.unsubscribe.result) c.self.view_is
-    (conn_decision old.side (g.R.Race.contents old.race) lines c.args.conn c.len.result c.in-Some.place c.place_of_conn.result e x c.unsubscribe.new.self (λ ended. Unsubscribed (option_to_list ended)) c.unsubscribe.result c.self.invariant count c.place_of_conn.ensures.place c.in-Some.is here c.unsubscribe.ensures).answers
+    let here : slice_get lines c.in-Some.place ≡ Some x =
+    slice_get-get_or lines c.in-Some.place x within ∙ ap Some (sym c.index_mut-line.ensures.value) in
+    subst (λ s.
+    IsDecided (refusal s (Own (OfConn c.args.conn e)))
+    (λ y. ConnStep s c.args.conn e (Unsubscribed (option_to_list y)) after) (after ≡ s) c.unsubscribe.result)
+    c.self.view_is
+    (conn_decision old.side (g.R.Race.contents old.race) lines c.args.conn c.len.result c.in-Some.place
+    c.place_of_conn.result e x c.unsubscribe.new.self (λ ended. Unsubscribed (option_to_list ended))
+    c.unsubscribe.result c.self.invariant count c.place_of_conn.ensures.place c.in-Some.is here
+    c.unsubscribe.ensures).answers
 
 pub place_of_conn-requires : goal.place_of_conn-requires
 place_of_conn-requires g c =
     let old = c.self.inside in
-    some_lines old.side (g.R.Race.contents old.race) old.lines.items c.len.result c.self.invariant (c.len.ensures ∙ old.lines.ok.0)
+    some_lines old.side (g.R.Race.contents old.race) old.lines.items c.len.result c.self.invariant
+    (c.len.ensures ∙ old.lines.ok.0)
 
 pub returns-in_default : goal.returns-in_default
 returns-in_default g c =
     let old = c.self.inside in (
-      subst (λ s. refusal s (Own (OfConn c.args.conn (Unsubscribe c.args.sid.now c.args.max))) ≡ Some (Shard NoConn)) c.self.view_is
-          (no_conn old.side (g.R.Race.contents old.race) old.lines.items c.args.conn c.len.result c.place_of_conn.result (Unsubscribe c.args.sid.now c.args.max) c.place_of_conn.ensures.place c.in_default.is),
+      subst (λ s. refusal s (Own (OfConn c.args.conn (Unsubscribe c.args.sid.now c.args.max))) ≡ Some (Shard NoConn))
+          c.self.view_is
+          (no_conn old.side (g.R.Race.contents old.race) old.lines.items c.args.conn c.len.result c.place_of_conn.result
+          (Unsubscribe c.args.sid.now c.args.max) c.place_of_conn.ensures.place c.in_default.is),
       refl,
     )

@@ -20,8 +20,17 @@ returns-else-not-claim g c =
     let told = c.in-Ok-Some.candidate in
     let ended = c.place-ended.result in
     let hand : old.shard.state.hand ≡ Some job = sym c.in-Some.ensures in
-    subst (λ (s : ShardWithJobs). (event_refusal s (Some (Claim c.args.index false)) ≡ None) × LineClaims c.args.copies s race c.args.shard c.args.index (Won told.sub told.placed ended) (record { shard = c.place-ended.new.self.state; waiting = old.waiting.items }) after) c.self.view_is
-    (ap (option_map Shard) c.in-Ok-Some.ensures.0, claim_won c.claims_are_whole.ensures c.args.copies old.shard c.candidate.new.self c.place-ended.new.self old.waiting.items c.args.index c.args.shard job.turn c.in-Ok-Some.field-0 told ended race after job hand refl c.in-Ok-Some.ensures.0 c.in-Ok-Some.ensures.1 c.in-Ok-Some.field-0-is c.if-not-claim.ensures c.place-ended.ensures.placed c.place-ended.ensures.ended)
+    subst (λ (s : ShardWithJobs).
+    (event_refusal s (Some (Claim c.args.index false)) ≡ None)
+    × LineClaims c.args.copies s race c.args.shard c.args.index (Won told.sub told.placed ended)
+    (record { shard = c.place-ended.new.self.state; waiting = old.waiting.items }) after)
+    c.self.view_is (
+      ap (option_map Shard) c.in-Ok-Some.ensures.0,
+      claim_won c.claims_are_whole.ensures c.args.copies old.shard c.candidate.new.self c.place-ended.new.self
+          old.waiting.items c.args.index c.args.shard job.turn c.in-Ok-Some.field-0 told ended race after job hand refl
+          c.in-Ok-Some.ensures.0 c.in-Ok-Some.ensures.1 c.in-Ok-Some.field-0-is c.if-not-claim.ensures
+          c.place-ended.ensures.placed c.place-ended.ensures.ended,
+    )
 
 pub returns-in_default : goal.returns-in_default
 returns-in_default g c =

@@ -13,7 +13,8 @@ pub end_old_session-requires : goal.end_old_session-requires
 end_old_session-requires c =
     let old = c.self.inside in
     let listed = subst (λ (s : ServerIdentity). IsListed s) c.server.ensures c.me-me.ensures.server.known in
-    of_a_peer old.hub.server old.sessions.server old.hub.state c.args.finished.now c.args.frame.now listed c.self.invariant c.in-Ok.ensures.0
+    of_a_peer old.hub.server old.sessions.server old.hub.state c.args.finished.now c.args.frame.now listed
+    c.self.invariant c.in-Ok.ensures.0
 
 pub invariant_of-self-2 : goal.invariant_of-self-2
 invariant_of-self-2 c =
@@ -26,9 +27,19 @@ returns c =
     let frame = c.args.frame.now in
     let finished = c.args.finished.now in
     let step = c.in-Ok.ensures.1 in
-    let seen_is = c.seen_of-seen.ensures ∙ ap (λ name. seen_of (peer_of old.hub.server old.hub.state name)) c.from.ensures in
+    let seen_is =
+    c.seen_of-seen.ensures ∙ ap (λ name. seen_of (peer_of old.hub.server old.hub.state name)) c.from.ensures in
     let new = side_of c.receive.new.self c.end_old_session.new.sessions in
-    let after = received_side old.hub c.receive.new.self old.sessions c.end_old_session.new.sessions frame finished c.seen_of-seen.result c.self.invariant step.after seen_is c.end_old_session.ensures in
-    let done : IsDone (side_of old.hub old.sessions) (ByHub (of_hub.Receive frame finished)) (OfHub (of_hub.Heard frame.number)) new = record { free = c.in-Ok.ensures.0; asked = tt; answered = ap OfHub (heard_answer old.hub.state frame frame.body c.requires); after = after } in
-    subst (λ (s : HubWithSessions). (hub_refusal s.server s.hub (of_hub.Receive frame finished) ≡ None) × IsDone s (ByHub (of_hub.Receive frame finished)) (OfHub (of_hub.Heard frame.number)) new) c.self.view_is
-    (c.in-Ok.ensures.0, done)
+    let after = received_side old.hub c.receive.new.self old.sessions c.end_old_session.new.sessions frame finished
+    c.seen_of-seen.result c.self.invariant step.after seen_is c.end_old_session.ensures in
+    let done : IsDone (side_of old.hub old.sessions) (ByHub (of_hub.Receive frame finished))
+    (OfHub (of_hub.Heard frame.number)) new = record {
+      free = c.in-Ok.ensures.0;
+      asked = tt;
+      answered = ap OfHub (heard_answer old.hub.state frame frame.body c.requires);
+      after = after;
+    } in
+    subst (λ (s : HubWithSessions).
+    (hub_refusal s.server s.hub (of_hub.Receive frame finished) ≡ None)
+    × IsDone s (ByHub (of_hub.Receive frame finished)) (OfHub (of_hub.Heard frame.number)) new)
+    c.self.view_is (c.in-Ok.ensures.0, done)

@@ -10,7 +10,11 @@ pub returns : goal.returns
 returns c =
     let old = c.self.inside in
     let x = c.args.connect.now in
-    let least_is : c.seen_of-least.result ≡ seen_of (peer_of old.hub.server old.hub.state x.server_name) = same_seen old.hub.server old.hub.state x.server_name c.server_name.result c.seen_of-least.result c.seen_of-least.ensures c.server_name.ensures in
+    let least_is : c.seen_of-least.result ≡ seen_of (peer_of old.hub.server old.hub.state x.server_name) =
+    same_seen old.hub.server old.hub.state x.server_name c.server_name.result c.seen_of-least.result
+    c.seen_of-least.ensures c.server_name.ensures in
     c.connect_fault.ensures
     ∙ (λ k. session_refusal (c.self.invariant k) old.sessions.state (OnConnect c.args.session x (least_is k)))
-    ∙ ap (λ (s : HubWithSessions). session_refusal s.server s.sessions (OnConnect c.args.session x (seen_name s x.server_name))) c.self.view_is
+    ∙ ap (λ (s : HubWithSessions).
+    session_refusal s.server s.sessions (OnConnect c.args.session x (seen_name s x.server_name)))
+    c.self.view_is

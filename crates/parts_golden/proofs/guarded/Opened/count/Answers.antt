@@ -11,5 +11,9 @@ count-requires g c =
     subst (λ o. IfSome o (λ (s : Subscription). s.delivered + 1 < 2 ^ 64)) c.in-Some.ensures fits
 
 pub invariant_of-self : goal.invariant_of-self
-invariant_of-self g c =
-    record { below = subst (λ l. All (λ (s : Subscription). s.serial ≤ c.args.self.now.last) l) (sym c.count.ensures) (below_counted c.args.self.now.last c.args.serial 1 (g.T.SubTable.contents c.args.self.now.table) c.args.self.now.below) }
+invariant_of-self g c = record {
+  below =
+      subst (λ l. All (λ (s : Subscription). s.serial ≤ c.args.self.now.last) l) (sym c.count.ensures)
+      (below_counted c.args.self.now.last c.args.serial 1 (g.T.SubTable.contents c.args.self.now.table)
+      c.args.self.now.below);
+}

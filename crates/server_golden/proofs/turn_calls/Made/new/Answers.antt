@@ -10,5 +10,15 @@ invariant_of-result c =
     let one = only_seat c.in_ok-cells.cells seats c.pop.new.self.items c.unwrap-seat.result made.3 is in
     let ends = c.in_ok-near.ensures in
     record {
-      parts = record { shards = made.0; hubs = made.1; first = made.2; seats = one.0; fresh = one.1; lane = ends.of_one; pushed = ends.new.0; popped = ends.new.1; hand = ends.new.2 };
+      parts = record {
+        shards = made.0;
+        hubs = made.1;
+        first = made.2;
+        seats = one.0;
+        fresh = one.1;
+        lane = ends.of_one;
+        pushed = ends.new.0;
+        popped = ends.new.1;
+        hand = ends.new.2;
+      };
     }

@@ -10,4 +10,5 @@ returns-clause-told c =
     let before = c.args.dirty_conns.now in
     let after = c.note_all.new.dirty_conns in
     let noted = subst (λ places. AreToldBut [] places conns after) c.deref.ensures.value c.note_all.ensures.told in
-    subst (λ (l : Clients). AreTold l.shown l.next before after) c.self.view_is (all_told c.self.inside.places.items conns before after c.self.invariant noted c.note_all.ensures.kept)
+    subst (λ (l : Clients). AreTold l.shown l.next before after) c.self.view_is
+    (all_told c.self.inside.places.items conns before after c.self.invariant noted c.note_all.ensures.kept)

@@ -12,8 +12,11 @@ not_false false e = sym e
 pub returns : goal.returns
 returns c = λ none.
     let places = c.self.inside.places.items in
-    let empty : (vec_len c.self.inside.places == 0) ≡ true = sym c.is_empty.ensures ∙ not_false c.is_empty.result none in
+    let empty : (vec_len c.self.inside.places == 0) ≡ true =
+    sym c.is_empty.ensures ∙ not_false c.is_empty.result none in
     let all : vec_len c.self.inside.places ≡ length places = c.self.inside.places.ok.0 in
     let len : length places ≡ 0 = grind (arith, nat_tests, common_steps) in
-    let settled : map (client_in_view next_backlog) c.self.inside.conns.items ≡ map (client_in_view shown_backlog) c.self.inside.conns.items = nothing_staged places c.self.inside.conns.items len c.self.invariant in
+    let settled : map (client_in_view next_backlog) c.self.inside.conns.items
+    ≡ map (client_in_view shown_backlog) c.self.inside.conns.items =
+    nothing_staged places c.self.inside.conns.items len c.self.invariant in
     sym (ap (λ (l : Clients). l.next) c.self.view_is) ∙ settled ∙ ap (λ (l : Clients). l.shown) c.self.view_is

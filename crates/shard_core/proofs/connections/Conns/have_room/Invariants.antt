@@ -6,5 +6,11 @@ use Rattle.shard_core.proofs.connections.Conns.have_room.Given as goal
 
 abbrev pub invariant-loop-conn : goal.invariant-loop-conn
 invariant-loop-conn g l =
-    list_all (λ conn. is_room (form_length l.lengths conn.headers) (room_left (client_in_view shown_backlog conn)) (matching_of conn.number l.subject (g.T.SubTable.contents l.table))) (drop l.conn-index l.conn-items)
-    ≡ list_all (λ conn. is_room (form_length l.lengths conn.headers) (room_left (client_in_view shown_backlog conn)) (matching_of conn.number l.subject (g.T.SubTable.contents l.table))) l.conn-items
+    list_all (λ conn.
+    is_room (form_length l.lengths conn.headers) (room_left (client_in_view shown_backlog conn))
+    (matching_of conn.number l.subject (g.T.SubTable.contents l.table)))
+    (drop l.conn-index l.conn-items)
+    ≡ list_all (λ conn.
+    is_room (form_length l.lengths conn.headers) (room_left (client_in_view shown_backlog conn))
+    (matching_of conn.number l.subject (g.T.SubTable.contents l.table)))
+    l.conn-items

@@ -19,19 +19,29 @@ invariant_of-self-in-Some c =
     let is = c.index_mut-conn.ensures.value in
     let at : position (λ (y : Conn). y.number == n) conns ≡ Some i = sym c.place_in.ensures ∙ c.in-Some.is in
     let there : i < length conns = (position-Some (λ (y : Conn). y.number == n) conns i x at).0 in
-    conns_settled c.self.inside.places.items conns i x c.take_bytes.new.self is there (ap (λ (b : Waiting). b.next) c.in_ok-taken-in-Some.ensures.ok ∙ sym (ap (λ (b : Waiting). b.shown) c.in_ok-taken-in-Some.ensures.ok)) c.self.invariant
+    conns_settled c.self.inside.places.items conns i x c.take_bytes.new.self is there
+    (ap (λ (b : Waiting). b.next) c.in_ok-taken-in-Some.ensures.ok
+    ∙ sym (ap (λ (b : Waiting). b.shown) c.in_ok-taken-in-Some.ensures.ok))
+    c.self.invariant
 
 pub returns-in-None-clause-taken : goal.returns-in-None-clause-taken
 returns-in-None-clause-taken c =
     let none = sym c.place_in.ensures ∙ c.in-None.is in
-    let nothing : take c.args.count (waits_for c.args.conn c.args.self.now.shown) ≡ [] = sym (ap (λ (l : Clients). take c.args.count (waits_for c.args.conn l.shown)) c.self.view_is) ∙ ap (λ o. take c.args.count (entries_of o)) (client_none shown_backlog c.args.conn c.self.inside.conns.items none) ∙ take_all c.args.count [] (omega arith) in
+    let nothing : take c.args.count (waits_for c.args.conn c.args.self.now.shown) ≡ [] =
+    sym (ap (λ (l : Clients). take c.args.count (waits_for c.args.conn l.shown)) c.self.view_is)
+    ∙ ap (λ o. take c.args.count (entries_of o)) (client_none shown_backlog c.args.conn c.self.inside.conns.items none)
+    ∙ take_all c.args.count [] (omega arith) in
     sym (ap length nothing)
 
 pub returns-in-None-clause-bytes : goal.returns-in-None-clause-bytes
 returns-in-None-clause-bytes c =
     let none = sym c.place_in.ensures ∙ c.in-None.is in
-    let nothing : take c.args.count (waits_for c.args.conn c.args.self.now.shown) ≡ [] = sym (ap (λ (l : Clients). take c.args.count (waits_for c.args.conn l.shown)) c.self.view_is) ∙ ap (λ o. take c.args.count (entries_of o)) (client_none shown_backlog c.args.conn c.self.inside.conns.items none) ∙ take_all c.args.count [] (omega arith) in
-    sym (append-nil c.args.out.now.items) ∙ sym (ap (λ (es : List Written). c.args.out.now.items ++ bytes_of_all es) nothing)
+    let nothing : take c.args.count (waits_for c.args.conn c.args.self.now.shown) ≡ [] =
+    sym (ap (λ (l : Clients). take c.args.count (waits_for c.args.conn l.shown)) c.self.view_is)
+    ∙ ap (λ o. take c.args.count (entries_of o)) (client_none shown_backlog c.args.conn c.self.inside.conns.items none)
+    ∙ take_all c.args.count [] (omega arith) in
+    sym (append-nil c.args.out.now.items)
+    ∙ sym (ap (λ (es : List Written). c.args.out.now.items ++ bytes_of_all es) nothing)
 
 pub returns-in_ok-taken-in-Some-clause-taken : goal.returns-in_ok-taken-in-Some-clause-taken
 returns-in_ok-taken-in-Some-clause-taken c =
@@ -41,7 +51,9 @@ returns-in_ok-taken-in-Some-clause-taken c =
     let x = c.index_mut-conn.result.now in
     let is = c.index_mut-conn.ensures.value in
     let at : position (λ (y : Conn). y.number == n) conns ≡ Some i = sym c.place_in.ensures ∙ c.in-Some.is in
-    c.in_ok-taken-in-Some.ensures.taken ∙ ap (λ (es : List Written). length (take c.args.count es)) (sym (waits_is shown_backlog n conns i x at is) ∙ ap (λ (l : Clients). waits_for n l.shown) c.self.view_is)
+    c.in_ok-taken-in-Some.ensures.taken
+    ∙ ap (λ (es : List Written). length (take c.args.count es))
+    (sym (waits_is shown_backlog n conns i x at is) ∙ ap (λ (l : Clients). waits_for n l.shown) c.self.view_is)
 
 pub returns-in_ok-taken-in-Some-clause-bytes : goal.returns-in_ok-taken-in-Some-clause-bytes
 returns-in_ok-taken-in-Some-clause-bytes c =
@@ -51,7 +63,9 @@ returns-in_ok-taken-in-Some-clause-bytes c =
     let x = c.index_mut-conn.result.now in
     let is = c.index_mut-conn.ensures.value in
     let at : position (λ (y : Conn). y.number == n) conns ≡ Some i = sym c.place_in.ensures ∙ c.in-Some.is in
-    c.in_ok-taken-in-Some.ensures.bytes ∙ ap (λ (es : List Written). c.args.out.now.items ++ bytes_of_all (take c.args.count es)) (sym (waits_is shown_backlog n conns i x at is) ∙ ap (λ (l : Clients). waits_for n l.shown) c.self.view_is)
+    c.in_ok-taken-in-Some.ensures.bytes
+    ∙ ap (λ (es : List Written). c.args.out.now.items ++ bytes_of_all (take c.args.count es))
+    (sym (waits_is shown_backlog n conns i x at is) ∙ ap (λ (l : Clients). waits_for n l.shown) c.self.view_is)
 
 pub returns-in_ok-taken-in-Some-clause-ok : goal.returns-in_ok-taken-in-Some-clause-ok
 returns-in_ok-taken-in-Some-clause-ok c =
@@ -62,7 +76,10 @@ returns-in_ok-taken-in-Some-clause-ok c =
     let is = c.index_mut-conn.ensures.value in
     let at : position (λ (y : Conn). y.number == n) conns ≡ Some i = sym c.place_in.ensures ∙ c.in-Some.is in
     let change = without_first c.args.count in
-    changed_is shown_backlog n conns i x at is change c.take_bytes.new.self (ap (λ (b : Waiting). client_in_view shown_backlog (record { number = x.number; outbox = b; headers = x.headers })) c.in_ok-taken-in-Some.ensures.ok) ∙ ap (λ (l : Clients). clients_with_change change n l.shown) c.self.view_is
+    changed_is shown_backlog n conns i x at is change c.take_bytes.new.self
+    (ap (λ (b : Waiting). client_in_view shown_backlog (record { number = x.number; outbox = b; headers = x.headers }))
+    c.in_ok-taken-in-Some.ensures.ok)
+    ∙ ap (λ (l : Clients). clients_with_change change n l.shown) c.self.view_is
 
 pub returns-in-None-clause-ok : goal.returns-in-None-clause-ok
 returns-in-None-clause-ok c =
@@ -70,4 +87,6 @@ returns-in-None-clause-ok c =
     let n = c.args.conn in
     let change = without_first c.args.count in
     let none = sym c.place_in.ensures ∙ c.in-None.is in
-    ap (λ (l : Clients). l.shown) (sym c.self.view_is) ∙ sym (changed_none shown_backlog n change conns none) ∙ ap (λ (l : Clients). clients_with_change change n l.shown) c.self.view_is
+    ap (λ (l : Clients). l.shown) (sym c.self.view_is)
+    ∙ sym (changed_none shown_backlog n change conns none)
+    ∙ ap (λ (l : Clients). clients_with_change change n l.shown) c.self.view_is

@@ -15,8 +15,16 @@ loop-serial-preserved g c =
     let apart = subst AreApart next c.loop-serial.invariant.apart in
     record {
       apart = apart.1;
-      rest = ap (with_closings rest) c.close.ensures ∙ closings_step k rest o apart.0 ∙ sym (ap (λ l. with_closings l o) next) ∙ c.loop-serial.invariant.rest;
+      rest =
+          ap (with_closings rest) c.close.ensures
+          ∙ closings_step k rest o apart.0
+          ∙ sym (ap (λ l. with_closings l o) next)
+          ∙ c.loop-serial.invariant.rest;
     }
 
 pub returns : goal.returns
-returns g c = sym (no_closings c.loop-serial.self) ∙ sym (ap (λ l. with_closings l c.loop-serial.self) (drop_all c.loop-serial.serial-index c.args.ended.now c.loop-serial-test.false)) ∙ c.loop-serial.invariant.rest
+returns g c =
+    sym (no_closings c.loop-serial.self)
+    ∙ sym (ap (λ l. with_closings l c.loop-serial.self)
+    (drop_all c.loop-serial.serial-index c.args.ended.now c.loop-serial-test.false))
+    ∙ c.loop-serial.invariant.rest

@@ -22,16 +22,25 @@ loop-member-preserved g c =
           let sub = w.in-Some.sub.now in
           let found : found_at subs mark m ≡ Some sub = sym asked ∙ ap option_copied w.in-Some.is in
           let items : w.push.new.self.items ≡ c.loop-member.subs.items ++ w.in-Some.sub ∷ [] = search rules in
-          ap (λ v. map (λ (s : Bor Subscription). s.now) v.items) w.subs-is ∙ ap (map (λ (s : Bor Subscription). s.now)) items ∙ map-append (λ (s : Bor Subscription). s.now) c.loop-member.subs.items (w.in-Some.sub ∷ [])
-          ∙ ap (λ l. l ++ sub ∷ []) c.loop-member.invariant ∙ sym (more ∙ ap (λ o. found_of subs mark (take i ms) ++ option_to_list o) found)
+          ap (λ v. map (λ (s : Bor Subscription). s.now) v.items) w.subs-is
+          ∙ ap (map (λ (s : Bor Subscription). s.now)) items
+          ∙ map-append (λ (s : Bor Subscription). s.now) c.loop-member.subs.items (w.in-Some.sub ∷ [])
+          ∙ ap (λ l. l ++ sub ∷ []) c.loop-member.invariant
+          ∙ sym (more ∙ ap (λ o. found_of subs mark (take i ms) ++ option_to_list o) found)
       | in_default w ↦
           let found : found_at subs mark m ≡ None = sym asked ∙ ap option_copied w.in_default.is in
-          ap (λ v. map (λ (s : Bor Subscription). s.now) v.items) w.subs-is ∙ c.loop-member.invariant ∙ sym (more ∙ ap (λ o. found_of subs mark (take i ms) ++ option_to_list o) found ∙ append-nil (found_of subs mark (take i ms)))
+          ap (λ v. map (λ (s : Bor Subscription). s.now) v.items) w.subs-is
+          ∙ c.loop-member.invariant
+          ∙ sym (more ∙ ap (λ o. found_of subs mark (take i ms) ++ option_to_list o) found
+          ∙ append-nil (found_of subs mark (take i ms)))
     ]
 
 pub returns : goal.returns
 returns g c =
     let subs = c.args.self.now.subs in
     let ms = c.args.members.now in
-    let end : c.loop-member.member-index ≡ length ms = grind (arith, c.loop-member-test.false, c.loop-member.auto.member-index-end) in
-    c.loop-member.invariant ∙ ap (λ k. found_of subs c.args.mark (take k ms)) end ∙ ap (found_of subs c.args.mark) (take_all (length ms) ms (omega arith))
+    let end : c.loop-member.member-index ≡ length ms =
+    grind (arith, c.loop-member-test.false, c.loop-member.auto.member-index-end) in
+    c.loop-member.invariant
+    ∙ ap (λ k. found_of subs c.args.mark (take k ms)) end
+    ∙ ap (found_of subs c.args.mark) (take_all (length ms) ms (omega arith))

@@ -9,5 +9,10 @@ use Rattle.shard_core.proofs.shard.Shard.take_bytes.Goals as goal
 pub invariant_of-self-2 : goal.invariant_of-self-2
 invariant_of-self-2 g c =
     let change = without_first c.args.count in
-    sound_changed _ _ _ _ c.drop_candidate.new.conns c.take_bytes.new.self (clients_with_change change c.args.conn) c.self.inside.openings c.self.invariant c.drop_candidate.ensures.chosen c.drop_candidate.ensures.conns (c.in_ok-taken.ensures.ok ∙ shown_both (clients_with_change change c.args.conn) _ (ap (λ (l : Clients). l.next) c.drop_candidate.ensures.conns ∙ sym (ap (λ (l : Clients). l.shown) c.drop_candidate.ensures.conns)))
+    sound_changed _ _ _ _ c.drop_candidate.new.conns c.take_bytes.new.self (clients_with_change change c.args.conn)
+    c.self.inside.openings c.self.invariant c.drop_candidate.ensures.chosen c.drop_candidate.ensures.conns
+    (c.in_ok-taken.ensures.ok
+    ∙ shown_both (clients_with_change change c.args.conn) _
+    (ap (λ (l : Clients). l.next) c.drop_candidate.ensures.conns
+    ∙ sym (ap (λ (l : Clients). l.shown) c.drop_candidate.ensures.conns)))
     (numbered_changed _ _ change c.args.conn _ c.self.invariant.numbered) (still_possible _ _ _ c.self.invariant)

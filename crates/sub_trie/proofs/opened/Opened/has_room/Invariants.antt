@@ -7,4 +7,5 @@ use Rattle.sub_trie.proofs.opened.Opened.has_room.Given as goal
 abbrev pub invariant-loop-serial : goal.invariant-loop-serial
 invariant-loop-serial l =
     is_room l.len l.fn.room (matching_of l.conn l.subject (subs_of_serials (subs_in_order l.self.subs) l.serials))
-    ≡ is_room l.len l.room (matching_of l.conn l.subject (subs_of_serials (subs_in_order l.self.subs) (drop l.serial-index l.serials)))
+    ≡ is_room l.len l.room
+    (matching_of l.conn l.subject (subs_of_serials (subs_in_order l.self.subs) (drop l.serial-index l.serials)))

@@ -24,16 +24,25 @@ loop-serial-preserved c =
           let sub = w.in-Some.sub.now in
           let found : find (has_serial n) contents ≡ Some sub = sym asked ∙ ap option_copied w.in-Some.is in
           let items : w.push.new.self.items ≡ c.loop-serial.subs.items ++ w.in-Some.sub ∷ [] = search rules in
-          ap (λ v. map (λ (s : Bor Subscription). s.now) v.items) w.subs-is ∙ ap (map (λ (s : Bor Subscription). s.now)) items ∙ map-append (λ (s : Bor Subscription). s.now) c.loop-serial.subs.items (w.in-Some.sub ∷ [])
-          ∙ ap (λ l. l ++ sub ∷ []) c.loop-serial.invariant ∙ sym (more ∙ ap (λ o. subs_of_serials contents (take i ns) ++ option_to_list o) found)
+          ap (λ v. map (λ (s : Bor Subscription). s.now) v.items) w.subs-is
+          ∙ ap (map (λ (s : Bor Subscription). s.now)) items
+          ∙ map-append (λ (s : Bor Subscription). s.now) c.loop-serial.subs.items (w.in-Some.sub ∷ [])
+          ∙ ap (λ l. l ++ sub ∷ []) c.loop-serial.invariant
+          ∙ sym (more ∙ ap (λ o. subs_of_serials contents (take i ns) ++ option_to_list o) found)
       | in_default w ↦
           let found : find (has_serial n) contents ≡ None = sym asked ∙ ap option_copied w.in_default.is in
-          ap (λ v. map (λ (s : Bor Subscription). s.now) v.items) w.subs-is ∙ c.loop-serial.invariant ∙ sym (more ∙ ap (λ o. subs_of_serials contents (take i ns) ++ option_to_list o) found ∙ append-nil (subs_of_serials contents (take i ns)))
+          ap (λ v. map (λ (s : Bor Subscription). s.now) v.items) w.subs-is
+          ∙ c.loop-serial.invariant
+          ∙ sym (more ∙ ap (λ o. subs_of_serials contents (take i ns) ++ option_to_list o) found
+          ∙ append-nil (subs_of_serials contents (take i ns)))
     ]
 
 pub returns : goal.returns
 returns c =
     let contents = subs_in_order c.args.self.now.subs in
     let ns = c.args.serials.now in
-    let end : c.loop-serial.serial-index ≡ length ns = grind (arith, c.loop-serial-test.false, c.loop-serial.auto.serial-index-end) in
-    c.loop-serial.invariant ∙ ap (λ k. subs_of_serials contents (take k ns)) end ∙ ap (subs_of_serials contents) (take_all (length ns) ns (omega arith))
+    let end : c.loop-serial.serial-index ≡ length ns =
+    grind (arith, c.loop-serial-test.false, c.loop-serial.auto.serial-index-end) in
+    c.loop-serial.invariant
+    ∙ ap (λ k. subs_of_serials contents (take k ns)) end
+    ∙ ap (subs_of_serials contents) (take_all (length ns) ns (omega arith))

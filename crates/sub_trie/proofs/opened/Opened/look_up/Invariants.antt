@@ -4,4 +4,5 @@ use Rattle.sub_trie.specs.Recalls.{subs_of_serials}
 use Rattle.sub_trie.proofs.opened.Opened.look_up.Given as goal
 
 abbrev pub invariant-loop-serial : goal.invariant-loop-serial
-invariant-loop-serial l = map (λ sub. sub.now) l.subs.items ≡ subs_of_serials (subs_in_order l.self.subs) (take l.serial-index l.serials)
+invariant-loop-serial l =
+    map (λ sub. sub.now) l.subs.items ≡ subs_of_serials (subs_in_order l.self.subs) (take l.serial-index l.serials)

@@ -17,13 +17,16 @@ pub returns-then-is_err-2-clause-err : goal.returns-then-is_err-2-clause-err
 returns-then-is_err-2-clause-err c =
     let subs = subs_in_order c.args.self.now.opened.subs in
     let opened : subs_in_order c.add.new.self.subs ≡ subs ++ c.args.sub ∷ [] = c.in_ok-add.ensures.ok in
-    c.remove-then-is_err-2.ensures.rest ∙ ap (without_serial c.args.sub.serial) opened ∙ last_closed c.args.sub subs c.requires
+    c.remove-then-is_err-2.ensures.rest
+    ∙ ap (without_serial c.args.sub.serial) opened
+    ∙ last_closed c.args.sub subs c.requires
 
 pub invariant_of-self-then-is_err : goal.invariant_of-self-then-is_err
 invariant_of-self-then-is_err c =
     let subs = subs_in_order c.args.self.now.opened.subs in
     let opened : subs_in_order c.add.new.self.subs ≡ subs ++ c.args.sub ∷ [] = c.in_ok-add.ensures.ok in
-    let same : subs_in_order c.remove.new.self.subs ≡ subs = c.remove.ensures.rest ∙ ap (without_serial c.args.sub.serial) opened ∙ last_closed c.args.sub subs c.requires in
+    let same : subs_in_order c.remove.new.self.subs ≡ subs =
+    c.remove.ensures.rest ∙ ap (without_serial c.args.sub.serial) opened ∙ last_closed c.args.sub subs c.requires in
     let kept = on_err _ _ (sym c.is_err.ensures.value ∙ c.if-is_err.true) c.push_serial.ensures.err in
     record {
       owned = λ conn. kept conn ∙ c.args.self.now.owned conn ∙ sym (ap (serials_of conn) same);
@@ -39,10 +42,14 @@ invariant_of-self-then-is_err-2 c =
     let mid = list_at nat_eq c.push_serial.new.groups in
     let opened : subs_in_order c.add.new.self.subs ≡ subs ++ sub ∷ [] = c.in_ok-add.ensures.ok in
     let closed = last_closed sub subs c.requires in
-    let same : subs_in_order c.remove-then-is_err-2.new.self.subs ≡ subs = c.remove-then-is_err-2.ensures.rest ∙ ap (without_serial sub.serial) opened ∙ closed in
+    let same : subs_in_order c.remove-then-is_err-2.new.self.subs ≡ subs =
+    c.remove-then-is_err-2.ensures.rest ∙ ap (without_serial sub.serial) opened ∙ closed in
     let pushed = on_ok _ _ (sym c.is_err.ensures.value ∙ c.if-is_err.false) c.push_serial.ensures.ok in
-    let before : (q : ℕ) → mid q ≡ serials_of q (subs ++ sub ∷ []) = conn_push k old mid subs sub c.get-conn.ensures c.args.self.now.owned pushed in
-    let after = conn_without k mid (list_at nat_eq c.take_serial.new.groups) (subs ++ sub ∷ []) sub c.get-conn.ensures before sub.serial (rising_push subs sub c.args.self.now.opened.rising c.requires) (last_is sub subs c.requires) c.take_serial.ensures in
+    let before : (q : ℕ) → mid q ≡ serials_of q (subs ++ sub ∷ []) =
+    conn_push k old mid subs sub c.get-conn.ensures c.args.self.now.owned pushed in
+    let after = conn_without k mid (list_at nat_eq c.take_serial.new.groups) (subs ++ sub ∷ []) sub c.get-conn.ensures
+    before sub.serial (rising_push subs sub c.args.self.now.opened.rising c.requires) (last_is sub subs c.requires)
+    c.take_serial.ensures in
     let kept = on_err _ _ (sym c.is_err-2.ensures.value ∙ c.if-is_err-2.true) c.push_serial-2.ensures.err in
     record {
       owned = λ conn. after conn ∙ ap (serials_of conn) closed ∙ sym (ap (serials_of conn) same);
@@ -57,6 +64,13 @@ invariant_of-self-else-is_err-2 c =
     let by_conn = on_ok _ _ (sym c.is_err.ensures.value ∙ c.if-is_err.false) c.push_serial.ensures.ok in
     let by_sid = on_ok _ _ (sym c.is_err-2.ensures.value ∙ c.if-is_err-2.false) c.push_serial-2.ensures.ok in
     record {
-      owned = λ conn. conn_push c.get-conn.result (list_at nat_eq c.args.self.now.by_conn) (list_at nat_eq c.push_serial.new.groups) subs sub c.get-conn.ensures c.args.self.now.owned by_conn conn ∙ sym (ap (serials_of conn) opened);
-      called = λ key. key_push c.call_key-key.result (list_at called_eq c.args.self.now.by_sid) (list_at called_eq c.push_serial-2.new.groups) subs sub c.call_key-key.ensures.conn c.call_key-key.ensures.sid c.args.self.now.called by_sid key ∙ sym (ap (serials_called key) opened);
+      owned = λ conn.
+          conn_push c.get-conn.result (list_at nat_eq c.args.self.now.by_conn) (list_at nat_eq c.push_serial.new.groups)
+          subs sub c.get-conn.ensures c.args.self.now.owned by_conn conn
+          ∙ sym (ap (serials_of conn) opened);
+      called = λ key.
+          key_push c.call_key-key.result (list_at called_eq c.args.self.now.by_sid)
+          (list_at called_eq c.push_serial-2.new.groups) subs sub c.call_key-key.ensures.conn c.call_key-key.ensures.sid
+          c.args.self.now.called by_sid key
+          ∙ sym (ap (serials_called key) opened);
     }

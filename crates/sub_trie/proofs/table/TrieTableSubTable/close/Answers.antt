@@ -10,9 +10,15 @@ pub invariant_of-self : goal.invariant_of-self
 invariant_of-self c =
     let subs = subs_in_order c.args.self.now.opened.subs in
     let k = c.get.result in
-    let closed = closed_of c.args.conn k subs (subs_in_order c.close_each.new.opened.subs) c.deref.result.now c.take_all-serials.result.items c.args.self.now.opened.rising c.close_each.ensures.closed c.deref.ensures.value (c.take_all-serials.ensures.given ∙ c.args.self.now.owned k) c.get.ensures in
+    let closed = closed_of c.args.conn k subs (subs_in_order c.close_each.new.opened.subs) c.deref.result.now
+    c.take_all-serials.result.items c.args.self.now.opened.rising c.close_each.ensures.closed c.deref.ensures.value
+    (c.take_all-serials.ensures.given ∙ c.args.self.now.owned k) c.get.ensures in
     record {
-      owned = λ conn. conn_closed k c.args.conn (list_at nat_eq c.args.self.now.by_conn) (list_at nat_eq c.take_all-serials.new.groups) subs c.get.ensures c.args.self.now.owned c.take_all-serials.ensures.left conn ∙ sym (ap (serials_of conn) closed);
+      owned = λ conn.
+          conn_closed k c.args.conn (list_at nat_eq c.args.self.now.by_conn)
+          (list_at nat_eq c.take_all-serials.new.groups) subs c.get.ensures c.args.self.now.owned
+          c.take_all-serials.ensures.left conn
+          ∙ sym (ap (serials_of conn) closed);
       called = c.close_each.ensures.called;
     }
 
@@ -20,4 +26,6 @@ pub returns : goal.returns
 returns c =
     let subs = subs_in_order c.args.self.now.opened.subs in
     let k = c.get.result in
-    closed_of c.args.conn k subs (subs_in_order c.close_each.new.opened.subs) c.deref.result.now c.take_all-serials.result.items c.args.self.now.opened.rising c.close_each.ensures.closed c.deref.ensures.value (c.take_all-serials.ensures.given ∙ c.args.self.now.owned k) c.get.ensures
+    closed_of c.args.conn k subs (subs_in_order c.close_each.new.opened.subs) c.deref.result.now
+    c.take_all-serials.result.items c.args.self.now.opened.rising c.close_each.ensures.closed c.deref.ensures.value
+    (c.take_all-serials.ensures.given ∙ c.args.self.now.owned k) c.get.ensures

@@ -11,6 +11,12 @@ invariant_of-self c =
     let subs = subs_in_order c.args.self.now.opened.subs in
     let change : Subscription → Subscription = λ sub. record sub { delivered = sub.delivered + c.args.count } in
     record {
-      owned = λ conn. c.args.self.now.owned conn ∙ sym (ap (serials_of conn) c.count_many.ensures ∙ changed_if (is_of conn) c.args.serial change (λ s. refl) (λ s. refl) subs);
-      called = λ key. c.args.self.now.called key ∙ sym (ap (serials_called key) c.count_many.ensures ∙ changed_if (is_called key.0 key.1.items) c.args.serial change (λ s. refl) (λ s. refl) subs);
+      owned = λ conn.
+          c.args.self.now.owned conn
+          ∙ sym (ap (serials_of conn) c.count_many.ensures
+          ∙ changed_if (is_of conn) c.args.serial change (λ s. refl) (λ s. refl) subs);
+      called = λ key.
+          c.args.self.now.called key
+          ∙ sym (ap (serials_called key) c.count_many.ensures
+          ∙ changed_if (is_called key.0 key.1.items) c.args.serial change (λ s. refl) (λ s. refl) subs);
     }

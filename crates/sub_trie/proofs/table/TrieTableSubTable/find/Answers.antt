@@ -11,5 +11,8 @@ pub returns : goal.returns
 returns c =
     let subs = subs_in_order c.args.self.now.opened.subs in
     let key = c.call_key.result in
-    c.first_serial.ensures ∙ ap first_of (c.args.self.now.called key) ∙ first_if (is_called key.0 key.1.items) subs
-    ∙ ap (λ k. option_map serial_of (find (is_called k key.1.items) subs)) c.call_key.ensures.conn ∙ ap (λ t. option_map serial_of (find (is_called c.args.conn t) subs)) c.call_key.ensures.sid
+    c.first_serial.ensures
+    ∙ ap first_of (c.args.self.now.called key)
+    ∙ first_if (is_called key.0 key.1.items) subs
+    ∙ ap (λ k. option_map serial_of (find (is_called k key.1.items) subs)) c.call_key.ensures.conn
+    ∙ ap (λ t. option_map serial_of (find (is_called c.args.conn t) subs)) c.call_key.ensures.sid

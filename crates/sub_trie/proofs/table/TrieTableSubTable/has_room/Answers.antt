@@ -11,5 +11,7 @@ returns c =
     let conn = c.args.conn in
     let subject = c.args.subject.now in
     c.has_room.ensures
-    ∙ ap (λ ns. is_room c.args.len c.args.room (matching_of conn subject (subs_of_serials contents ns))) (c.serials_under-serials.ensures ∙ c.args.self.now.owned c.get.result ∙ ap (λ k. serials_of k contents) c.get.ensures)
+    ∙ ap (λ ns. is_room c.args.len c.args.room (matching_of conn subject (subs_of_serials contents ns)))
+    (c.serials_under-serials.ensures ∙ c.args.self.now.owned c.get.result
+    ∙ ap (λ k. serials_of k contents) c.get.ensures)
     ∙ ap (is_room c.args.len c.args.room) (matching_owned conn subject contents c.args.self.now.opened.rising)

@@ -12,8 +12,10 @@ next_piece-requires c =
     let within = (found_within _ _ _ reach _ found).1 in
     let no_fault = rw (← c.self.view_is) at c.requires.no_fault in
     let awaits_line = rw (← c.self.view_is) at c.requires.line in
-    let next = next_is_line (the_view c.self.inside) no_fault awaits_line c.in-Some.length within (cut_line-found _ _ _ reach _ found) in
-    rw (← c.self.view_is, next.0, length-take-le c.in-Some.length c.self.inside.window.unread (omega (arith, within))) refl
+    let next = next_is_line (the_view c.self.inside) no_fault awaits_line c.in-Some.length within
+    (cut_line-found _ _ _ reach _ found) in
+    rw (← c.self.view_is, next.0, length-take-le c.in-Some.length c.self.inside.window.unread (omega (arith, within)))
+    refl
 
 pub invariant_of-self-in-None-2 : goal.invariant_of-self-in-None-2
 invariant_of-self-in-None-2 c =
@@ -34,9 +36,12 @@ returns-in-Some c =
     let within = (found_within _ _ _ reach _ found).1 in
     let no_fault = rw (← c.self.view_is) at c.requires.no_fault in
     let awaits_line = rw (← c.self.view_is) at c.requires.line in
-    let next = next_is_line (the_view c.self.inside) no_fault awaits_line c.in-Some.length within (cut_line-found _ _ _ reach _ found) in
-    let line_is = c.next_piece.ensures.piece in
-    ((refl, λ _. tt, c.next_piece.follows.holds-at-none), record { answer = rw (line_is, ← c.self.view_is, next.0) refl; rest = tt })
+    let next = next_is_line (the_view c.self.inside) no_fault awaits_line c.in-Some.length within
+    (cut_line-found _ _ _ reach _ found) in
+    let line_is = c.next_piece.ensures.piece in (
+      (refl, λ _. tt, c.next_piece.follows.holds-at-none),
+      record { answer = rw (line_is, ← c.self.view_is, next.0) refl; rest = tt },
+    )
 
 pub returns-in-None : goal.returns-in-None
 returns-in-None c =
@@ -44,5 +49,6 @@ returns-in-None c =
     let none = rw c.unread-unread.ensures at (sym c.in-None.ensures) in
     let no_fault = rw (← c.self.view_is) at c.requires.no_fault in
     let awaits_line = rw (← c.self.view_is) at c.requires.line in
-    let next = next_is_too_long (the_view c.self.inside) no_fault awaits_line (cut_line-long _ _ _ reach none c.if-reach-self.true) in
+    let next = next_is_too_long (the_view c.self.inside) no_fault awaits_line
+    (cut_line-long _ _ _ reach none c.if-reach-self.true) in
     rw (← c.self.view_is) ((refl, λ _. tt, sym next.1), record { answer = sym next.0; rest = tt })

@@ -11,10 +11,14 @@ advance-requires c = (after_piece (the_view c.self.inside) c.args.size (rw (← 
 pub used_bytes-requires-clause-back : goal.used_bytes-requires-clause-back
 used_bytes-requires-clause-back c =
     let within = (after_piece (the_view c.self.inside) c.args.size (rw (← c.self.view_is) at c.requires)).0 in
-    used_enough c.self.inside.window.used c.self.inside.window.unread c.advance.new.self.used (c.args.size + 2) within c.advance.ensures.used
+    used_enough c.self.inside.window.used c.self.inside.window.unread c.advance.new.self.used (c.args.size + 2) within
+    c.advance.ensures.used
 
 pub returns : goal.returns
 returns c =
     let after = after_piece (the_view c.self.inside) c.args.size (rw (← c.self.view_is) at c.requires) in
-    let lent = c.used_bytes.ensures ∙ used_last c.self.inside.window.used c.self.inside.window.unread c.advance.new.self.used (c.args.size + 2) c.args.size after.0 (omega arith) c.advance.ensures.used in
-    rw (← c.self.view_is) ((refl, λ _. tt, rw (after.1, c.advance.ensures.unread) (search rules)), record { piece = lent; rest = tt })
+    let lent = c.used_bytes.ensures
+    ∙ used_last c.self.inside.window.used c.self.inside.window.unread c.advance.new.self.used (c.args.size + 2)
+    c.args.size after.0 (omega arith) c.advance.ensures.used in
+    rw (← c.self.view_is)
+    ((refl, λ _. tt, rw (after.1, c.advance.ensures.unread) (search rules)), record { piece = lent; rest = tt })

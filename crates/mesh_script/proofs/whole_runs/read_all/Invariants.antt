@@ -2,7 +2,7 @@ use Rattle.std.proofs.Common.{◌≡◌, ◌+◌, ◌-◌, ◌≤◌}
 use Rattle.std.specs.Prelude.{vec_len}
 use Rattle.std.specs.Io.KnownBytes.{Consumes}
 use Rattle.subj.specs.declared.limits.TheConstants.{SCRIPT_BYTES}
-use Rattle.mesh_script.proofs.player.read_all.Given as goal
+use Rattle.mesh_script.proofs.whole_runs.read_all.Given as goal
 
 abbrev pub invariant-loop-chunk : goal.invariant-loop-chunk
 invariant-loop-chunk g l = record {
