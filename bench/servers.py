@@ -71,6 +71,12 @@ def given_variables():
     return {name: os.environ.get(name) or value for name, value in given.items()}
 
 
+def kilobytes_of(process, name):
+    """What the system tells of a process's memory under this name."""
+    with open("/proc/%d/status" % process.pid, encoding="utf-8") as lines:
+        return sum(int(line.split()[1]) for line in lines if line.startswith(name + ":"))
+
+
 def is_free(port):
     with socket.socket() as probe:
         try:
@@ -141,11 +147,7 @@ class Servers:
 
     def kilobytes(self, name):
         """What the system tells of their memory under this name, in all."""
-        kilobytes = 0
-        for process in self.processes:
-            with open("/proc/%d/status" % process.pid, encoding="utf-8") as lines:
-                kilobytes += sum(int(line.split()[1]) for line in lines if line.startswith(name + ":"))
-        return kilobytes
+        return sum(kilobytes_of(process, name) for process in self.processes)
 
     def peak_kilobytes(self):
         return self.kilobytes("VmHWM")

@@ -18,8 +18,8 @@ import signal
 import subprocess
 import sys
 import threading
-import time
 
+from progress import Progress
 from repository import TOP, folder_of, libraries_of, lines_of_crates
 
 ROOM = os.path.join(TOP, ".build")
@@ -29,9 +29,6 @@ MEMORY_OF_A_CHECK = 3_000_000
 
 # What a crate counts of which nothing was measured, in processor seconds.
 UNMEASURED = 100
-
-# How often progress is told at least, in seconds.
-INTERVAL = 10
 
 # By how much less time a check takes with so many jobs; more of them gain nothing.
 GAIN = {1: 1.0, 2: 0.65, 3: 0.53, 4: 0.45}
@@ -121,26 +118,13 @@ class Plan:
         return now
 
 
-class Progress:
-    """Tells how far the build is: at each crate that is proved, and at least every so many seconds."""
+class Proofs(Progress):
+    """Says how far the build is also at each crate that is proved."""
 
     def __init__(self, plan, program):
+        super().__init__()
         self.plan, self.program, self.whole = plan, program, plan.expected()
-        self.proved, self.running = [], {}
-        self.start, self.ended = time.monotonic(), threading.Event()
-        self.telling, self.thread = threading.RLock(), threading.Thread(target=self.tell_on, daemon=True)
-
-    def __enter__(self):
-        self.thread.start()
-        return self
-
-    def __exit__(self, *_):
-        self.ended.set()
-        self.thread.join()
-
-    def tell_on(self):
-        while not self.ended.wait(INTERVAL):
-            self.tell()
+        self.proved, self.running, self.telling = [], {}, threading.RLock()
 
     def share(self):
         """Which part of the whole work is done."""
@@ -153,12 +137,15 @@ class Progress:
         planned = self.whole * self.share()
         return (self.whole - planned) * (gone + SETTLING) / (planned + SETTLING)
 
+    def line(self):
+        gone = self.gone()
+        doing = ", ".join(f"{crate} {done} of {count}" if done else crate for crate, (done, count) in self.running.items())
+        return (f"{self.program}: {len(self.proved)} of {len(self.plan.needed)} crates are proved; at {doing or 'none'}; {gone:.0f} s gone, "
+                f"about {self.left(gone) / 60:.0f} min left")
+
     def tell(self):
         with self.telling:
-            gone = time.monotonic() - self.start
-            doing = ", ".join(f"{crate} {done} of {count}" if done else crate for crate, (done, count) in self.running.items())
-            print(f"{self.program}: {len(self.proved)} of {len(self.plan.needed)} crates are proved; at {doing or 'none'}; {gone:.0f} s gone, "
-                  f"about {self.left(gone) / 60:.0f} min left", file=sys.stderr, flush=True)
+            super().tell()
 
     def begins(self, crate):
         with self.telling:
@@ -346,7 +333,7 @@ class Build:
 def build(program):
     """Proves and builds the program, unless it is as its sources are. Ends this process where it is refused."""
     plan = Plan(program, lines_of_crates(), processors())
-    with Progress(plan, program) as progress:
+    with Proofs(plan, program) as progress:
         print(f"{program}: {len(plan.needed)} crates are proved and built once, on {plan.lanes} processors: about {progress.whole / 60:.0f} minutes on a "
               "quiet machine", file=sys.stderr, flush=True)
         with Trees(plan) as trees:
