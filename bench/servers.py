@@ -8,7 +8,9 @@ import subprocess
 import sys
 import time
 
-TOP = os.path.dirname(os.path.dirname(os.path.abspath(__file__)))
+sys.path.append(os.path.join(os.path.dirname(os.path.dirname(os.path.abspath(__file__))), "tools"))
+
+from repository import TOP, cause_against, program_of
 
 # The program that loads servers: its sources, and where it is built.
 LOAD = os.path.join(TOP, "bench", "load")
@@ -30,23 +32,18 @@ class Failed(Exception):
     """A run that gave no figures."""
 
 
-def is_stale(path):
-    """Whether a program is missing, or older than a source."""
-    if not os.path.exists(path):
-        return True
-    made = os.path.getmtime(path)
-    for folder, folders, names in os.walk(os.path.join(TOP, "crates")):
-        folders[:] = [name for name in folders if name != "out"]
-        if any(os.path.getmtime(os.path.join(folder, name)) > made for name in names):
-            return True
-    return os.path.getmtime(os.path.join(TOP, "crates.txt")) > made
+def tell_help(text):
+    """Where a word of the command line asks for help, prints this text and ends this process, before anything is built."""
+    if {"-h", "--help"} & set(sys.argv[1:]):
+        print(text.strip())
+        sys.exit(0)
 
 
 def built(name, is_proved=True):
     """The program of this name, which is built first where it is missing or older than its sources: the proved one, or one of the same
     sources that nobody has proved here."""
-    path = os.path.join(TOP, "crates", name, "out", name) if is_proved else os.path.join(TOP, ".unproved", name)
-    if is_stale(path):
+    path = program_of(name, is_proved)
+    if cause_against(path):
         tool = "build.py" if is_proved else "unproved.py"
         subprocess.run([sys.executable, os.path.join(TOP, "tools", tool), name], stdin=subprocess.DEVNULL, stdout=sys.stderr, check=True)
         os.utime(path)

@@ -29,11 +29,10 @@ In reading order: `values`, `shard`, `server` and `cluster` are the model; `move
 drawn, `judge` judges them, and `plants` edits what was written; `logs` has both for their lists, and `streams` for one client; `tally` is what is told
 at the end.
 """
-import os
 import subprocess
 import sys
 
-from repository import TOP
+from repository import cause_against, program_of
 
 from . import logs, plants, streams
 from .disturbed import disturbed
@@ -54,11 +53,6 @@ LISTS = 500
 # How long the program may take for a list, in seconds, and how many flaws of one list are told.
 LAST_SECOND = 120
 MOST_FLAWS = 5
-
-
-def path_of(name, is_proved):
-    """Where a program stands."""
-    return os.path.join(TOP, "crates", name, "out", name) if is_proved else os.path.join(TOP, ".unproved", name)
 
 
 def run(programs, words, data):
@@ -166,24 +160,6 @@ def show(asked, seeds):
     return 0
 
 
-def newer_source(program):
-    """The first source that changed after the program was built; none where there is none."""
-    built = os.stat(program).st_mtime_ns
-    sources = [os.path.join(TOP, "crates.txt")]
-    for folder, folders, names in os.walk(os.path.join(TOP, "crates")):
-        folders[:] = sorted(set(folders) - {"out"})
-        sources += [os.path.join(folder, name) for name in sorted(names) if name.endswith((".rt", ".antt"))]
-    return next((os.path.relpath(path, TOP) for path in sources if os.stat(path).st_mtime_ns > built), None)
-
-
-def cause_against(program):
-    """Why a program is not played; none where it is."""
-    if not os.access(program, os.X_OK):
-        return f"there is no program {program}"
-    source = newer_source(program)
-    return f"{source} changed after {program} was built" if source else None
-
-
 def main(words):
     asked = words_of(words)
     if asked is None:
@@ -191,7 +167,7 @@ def main(words):
     seeds = range(int(asked["--seed"]), int(asked["--seed"]) + int(asked["lists"]))
     if asked["--show"]:
         return show(asked, seeds)
-    programs = {name: path_of(name, not asked["--unproved"]) for name in PROGRAM_OF.values()}
+    programs = {name: program_of(name, not asked["--unproved"]) for name in PROGRAM_OF.values()}
     with_plants, tally = asked["--plants"], Tally()
     cause = next(filter(None, map(cause_against, programs.values())), None)
     if cause:
