@@ -129,7 +129,14 @@ def lane(picture, x, name, job):
 def lock(picture, x, y, width, height, name):
     """What stands under a lock."""
     picture.rect(x, y, width, height, fill="none", stroke="lock", dashed=True, radius=8, thick=1.6)
-    picture.text(x + width - 10, y + 18, name, fill="lock", anchor="end", size=12)
+    picture.text(x + width - 10, y + 15, name, fill="lock", anchor="end", size=12)
+
+
+def shards(picture, lines):
+    """Shards 1 and 2 of a server, each at its place and with what it does, under a lock of its own."""
+    for name, (x, line) in zip(["shard 1", "shard 2"], lines):
+        lock(picture, x, 354, 240, 170, f"{name}'s lock")
+        titled(picture, x + 12, 382, 216, name, line)
 
 
 def first_server(picture):
@@ -150,9 +157,7 @@ def first_server(picture):
     lane(picture, 150, "lane 1", "turn 9: no q")
     lane(picture, 420, "lane 2", "turn 9: no q")
     step(picture, 74, 313, 5)
-    for x, name, line in [(36, "shard 1", "begins turn 9: A wants it"), (306, "shard 2", "begins turn 9: nobody here")]:
-        lock(picture, x, 354, 240, 170, f"{name}'s lock")
-        titled(picture, x + 12, 382, 216, name, line)
+    shards(picture, [(36, "begins turn 9: A wants it"), (306, "begins turn 9: nobody here")])
     step(picture, 264, 382, 6)
     titled(picture, 48, 456, 216, "outboxes of P and A", "+OK; MSG foo 1 5")
     step(picture, 264, 456, 7)
@@ -175,9 +180,7 @@ def second_server(picture):
     lane(picture, 714, "lane 1", "turn 5: [q]")
     lane(picture, 988, "lane 2", "turn 5: [q]")
     step(picture, 638, 313, 5)
-    for x, name, line in [(598, "shard 1", "candidate for q: B"), (874, "shard 2", "candidate for q: C")]:
-        lock(picture, x, 354, 240, 170, f"{name}'s lock")
-        titled(picture, x + 12, 382, 216, name, line)
+    shards(picture, [(598, "candidate for q: B"), (874, "candidate for q: C")])
     step(picture, 1102, 382, 6)
     titled(picture, 886, 456, 216, "outbox of C", "MSG foo 7 5")
     step(picture, 1102, 456, 7)
