@@ -6,12 +6,12 @@ Usage: tools/dev budget            measures, and ends with status 1 where someth
 The whole is the processor time that `rt ci --anew` and all that it starts have used, as the system tells it at the end. A crate's is that of
 the provers and compilers that worked on it, looked at every second, so that it falls short by a second or two for each of them.
 
-One machine needs half as long again as another for the same proofs. So the ceilings are in seconds of one machine, of which "pace" in tools/costs.json
-tells what the proofs of some crates took that have not changed since. What the same crates take in this run tells the pace of this machine, and all is
-counted in seconds of that one; the whole is printed in both. Whoever changes one of these crates takes it out of "pace", and its seconds too.
+One machine needs half as long again as another for the same proofs. So the ceilings count the seconds of one machine. "pace" in tools/costs.json says
+what the proofs of some crates took there, which have not changed since. What the same crates take in this run gives the pace of this machine. All is
+counted in seconds of that machine, and the whole is printed in both. Whoever changes one of these crates takes it and its seconds out of "pace".
 
-Each check has one job. The gate else gives a check the processors that nothing else waits for, and two to four jobs share its work at 1.2 to 1.8 times
-its processor seconds, so that the figures would tell how many processors the machine has.
+Each check has one job. Without this command the gate gives a check the processors that nothing else waits for. Two to four jobs then share its work at
+1.2 to 1.8 times its processor seconds, and the figures would depend on how many processors the machine has.
 """
 import json
 import os

@@ -12,15 +12,17 @@ proofs (.unproved/NAME). None is built here: where one is missing, or older than
 nothing: `tools/dev drill 1 --seed 17 --show script | ./nats_mesh script`. Status 0: nothing differs, and each plant was found.
 
 The model is written from the pages docs/SCRIPTS.md, docs/PROTOCOL.md and docs/PROMISES.md, and from nothing of the router's code. A cluster has 1 to
-5 servers of 1 to 4 shards, and one in 33 up to 16 servers of up to 16 (16 shards too where their share of subscriptions is filled). Judged of a
-script: each line; and of the placements as they are written, by the words of the headline, with no more of the model than which publications were
-made and when which subscription was open: each publication at most once for a plain subscription, and at most once for a queue name in the whole
-cluster; each for a subscription that was open at that step and matched, of a publication of an earlier step; those of an incarnation in rising
-number; without echo none for its publisher. Of a cluster at rest: it is told as settled, and each publication that is delivered there, as one step or
-with its work in an order that is drawn, reaches each subscription that is open and matches once, and each queue name once; where a frame is held back
-it is not told as settled. Judged of the lists of a script: each line, with the bytes of what is placed, and that they pass the audit; and with a flaw
-planted, that the line differs, and that the audit tells the placement that breaks the clause first, where the lists alone show it. Judged of a stream:
-what INFO says of payloads and headers, each byte behind it, and the status.
+5 servers of 1 to 4 shards, and one in 33 up to 16 servers of up to 16 (16 shards too where their share of subscriptions is filled).
+
+- Of a script each line is judged, and the placements as they are written. These are judged by the words of the headline; the model gives only which
+  publications were made and when which subscription was open. Each publication is placed at most once for a plain subscription, and at most once for
+  a queue name in the whole cluster. Each placement is for a subscription that was open at that step and matched, of a publication of an earlier step.
+  The publications of an incarnation come in rising number. Without echo none is placed for its publisher.
+- A cluster at rest has to be told as settled. Each publication that is delivered there, as one step or with its work in an order that is drawn, has
+  to reach each subscription that is open and matches once, and each queue name once. With a frame held back the cluster must not be told as settled.
+- Of the lists of a script each line is judged, with the bytes of what is placed, and they have to pass the audit. If a flaw is planted, its line has
+  to differ, and the audit has to tell the placement that breaks the clause first, where the lists alone show it.
+- Of a stream these are judged: what INFO says of payloads and headers, each byte behind it, and the status.
 
 Not judged: the bytes of frames, since no text shows them; what standard error tells; what is refused as no script (90 to 92); refusals that no script meets
 (`tally` names them); threads and sockets (`serve`); times, and want of memory.
