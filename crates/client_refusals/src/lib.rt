@@ -1,4 +1,4 @@
-//! What a client is told of a refusal by its shard, or by the hub of its server.
+//! What a client is told when its shard, or the hub of its server, refuses what it asked.
 //!
 //! ```text
 //! match shard.subscribe(id, key, sid) {

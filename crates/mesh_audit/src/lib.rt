@@ -1,4 +1,4 @@
-//! Logs of clusters are written and audited.
+//! Writes what a script's run published, subscribed and placed as a log, and audits logs.
 //!
 //! ```text
 //! script_audit_run::<TrieTable, CellsRace, _, _>(alloc, &mut source, &mut sink)?;

@@ -1,5 +1,5 @@
-//! One client of a server of its own, on a reader and a writer: [`pipe_run`] reads what the client sends and
-//! writes what the server answers, as a function of the bytes alone.
+//! Serves one client on a reader and a writer, with a server for this client alone: [`pipe_run`] reads what the client
+//! sends and writes what the server answers, which is a function of the bytes alone.
 //!
 //! ```text
 //! let mut source = Raw::new(rt.reader());

@@ -1,4 +1,4 @@
-//! Scripts are played: what is done in a cluster, step by step, and what is written of it.
+//! Plays a script: makes its events in a cluster, one after another, and writes a line for each.
 //!
 //! ```text
 //! let mut source = MemSource::new(bytes);

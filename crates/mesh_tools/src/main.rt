@@ -1,6 +1,6 @@
-//! The program of the tools that need no socket: `match` answers one question of matching, `script` plays what is done in a cluster, and `audit`
-//! audits a log of what was done in one. It takes the command line of `nats_mesh`, and the launcher starts it for these commands, so that whoever
-//! serves need not wait for its proofs.
+//! The program of the commands that need no socket: `match` tells whether a pattern matches a subject, `script` plays a script, and `audit`
+//! audits a log. It takes the command line of `nats_mesh`, and the launcher starts it for these commands, so that whoever serves need not wait
+//! for its proofs.
 //!
 //! ```text
 //! mesh_tools match orders.* orders.new

@@ -1,5 +1,5 @@
-//! One server as a machine: its hub with its sessions, its shards with the jobs that wait for them, and the race for claims, put
-//! together.
+//! One server as one value: its hub with its sessions, its shards with the jobs that wait for them, and the race that decides
+//! their claims.
 //!
 //! ```text
 //! let mut node: Node<ListTable, PlainRace> = Node::new(alloc, server)?;

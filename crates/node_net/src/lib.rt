@@ -1,4 +1,5 @@
-//! The connections of a server: streams in, streams out, and between them the calls of the server.
+//! The connections of one server, and its loop: it reads their streams, makes the calls that clients and routes ask
+//! for, and writes what waits for them.
 //!
 //! ```text
 //! let mut server: Server<MemStream, _> = Server::new(alloc, &node, life, host, 4222, 0)?;

@@ -1,4 +1,4 @@
-//! What stands under the locks of a server on threads: the states of its hub and of each of its shards. The hub hands jobs to
+//! The values behind the locks of a server on threads: the state of its hub and of each of its shards. The hub hands jobs to
 //! the shards by lanes, and the shards race for claims. The locks themselves are those of `thread_node`.
 //!
 //! ```text

@@ -1,4 +1,4 @@
-//! The calls that the connections of a server make of it, whatever the server is made of.
+//! The calls that connections make of their server, as traits, so that a connection depends on no one kind of server.
 //!
 //! ```text
 //! let Some(mut shard) = server.shard(rt, 1) else {

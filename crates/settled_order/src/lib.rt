@@ -1,4 +1,4 @@
-//! The work that is owed of a publication in a cluster, in an order of its own.
+//! The work owed for a publication in a cluster, in one order that settled delivery allows.
 //!
 //! ```text
 //! let order = delivery(alloc, &world, node, conn, &publication, word)?;

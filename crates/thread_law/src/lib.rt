@@ -1,4 +1,5 @@
-//! What a server on threads did, as the hub's run and each shard's, and what holds of every legal run.
+//! The runs of a server on threads: that of its hub and that of each shard, when they are legal together, and what
+//! holds of every legal run.
 //!
 //! ```text
 //! use thread_law::legal_runs_are_once;

@@ -1,5 +1,5 @@
-//! What callers asked a server on threads and were told, and the report at its end: that the server made a legal run,
-//! and that what was written down of it is what its callers say.
+//! The report of a server on threads at its end: the server made a legal run, and its tapes and the passes of its
+//! callers say the same.
 //!
 //! ```text
 //! let mut pass = Pass::new(alloc);

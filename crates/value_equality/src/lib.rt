@@ -1,5 +1,5 @@
-//! Whether two values that a server is asked with are the same: keys, messages and numbered frames, which own what they hold and so
-//! have no `==` of their own; and lines of clients and of routes.
+//! Tells whether two values are the same: keys, messages and numbered frames, which own their bytes and have no `==`, and lines of
+//! clients and of routes.
 //!
 //! ```text
 //! let copy = key.try_clone(alloc)?;
