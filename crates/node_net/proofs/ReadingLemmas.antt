@@ -1,6 +1,6 @@
 -- What a route reads, piece by piece.
 use Rattle.std.proofs.Common.{◌≡◌, ℕ, ◌+◌, Bool, true, false, List, [], ◌∷◌, ◌++◌, length, map, drop, Option, Some, None, Result, Ok, Err, refl, sym, ap, ◌∙◌, subst, inl, inr}
-use Rattle.std.specs.Prelude.{option_to_list, is_some, IsSome, IfNone, OnOk}
+use Rattle.std.specs.Prelude.{option_to_list, is_some, IsSome, IfSome, IfNone, OnOk}
 use Rattle.std.specs.Bool.{OnFalse}
 use Rattle.std.proofs.lemmas.List.{map-append}
 use Rattle.wire_cut.specs.declared.faults.CutFault.{CutFault}
@@ -583,8 +583,8 @@ part_waits old mid new end unjoined is begun cuts reads nothing reading has = (
     go ran.Short r = stand_by new (Some said) None mid.cutter reading line_is joined_is r at
     go e r = absurd r
 
--- a payload was read, and is joined to its line
-pub part_read : (old mid there taken new : RouteLink) (said : RouteLine) (bytes : List ℕ)
+-- a payload was read, and is joined to this line
+read_behind : (old mid there taken new : RouteLink) (said : RouteLine) (bytes : List ℕ)
     (result : Result (Unit {0}) Ran)
     → old.unjoined ≡ None
     → mid ≡ record old { unjoined = None }
@@ -596,7 +596,7 @@ pub part_read : (old mid there taken new : RouteLink) (said : RouteLine) (bytes 
     → taken ≡ record there { line = None }
     → JoinsFrame said bytes taken result new
     → ReadsAhead old result new
-part_read old mid there taken new said bytes result unjoined is stands cuts reads taken_is joins nothing reading has =
+read_behind old mid there taken new said bytes result unjoined is stands cuts reads taken_is joins nothing reading has =
     let some : mid.line ≡ Some said = sym (ap (λ (r : RouteLink). r.line) cuts) ∙ stands in
     let cutter_is : mid.cutter ≡ old.cutter = ap (λ (r : RouteLink). r.cutter) is in
     let at : HasToReadBy (Some said) None mid.cutter reading =
@@ -618,16 +618,22 @@ part_read old mid there taken new said bytes result unjoined is stands cuts read
     means ∙ ap (λ (c : CutterState). reading_behind (frame_told (frame_of_line said bytes)) c.unread) (sym there_is) in
     (j.0, stays ∙ j.1, j.2)
 
--- its line is there still
-pub part_lost : (old mid there : RouteLink)
+-- a payload was read, and is joined to its line, which is there still
+pub part_read : (old mid there new : RouteLink) (bytes : List ℕ) (result : Result (Unit {0}) Ran)
     → old.unjoined ≡ None
     → mid ≡ record old { unjoined = None }
     → IsBegun old
     → Cuts mid there
-    → there.line ≡ None
-    → ⊥
-part_lost old mid there unjoined is begun cuts none =
-    some_none mid.line (line_begun old mid begun unjoined is) (sym (ap (λ (r : RouteLink). r.line) cuts) ∙ none)
+    → ((text : List ℕ) (size : ℕ)
+    → StandsAt route_grammar (payload_of text size) mid.cutter
+    → ReadsPayload text size mid.cutter (Ok bytes) there.cutter)
+    → IfSome there.line (λ said. JoinsFrame said bytes (record there { line = None }) result new)
+    → ReadsAhead old result new
+part_read old mid there new bytes result unjoined is begun cuts reads joins =
+    let line_is : there.line ≡ mid.line = ap (λ (r : RouteLink). r.line) cuts in
+    let stands = line_there there.line (ap is_some line_is ∙ line_begun old mid begun unjoined is) in
+    read_behind old mid there (record there { line = None }) new stands.0 bytes result unjoined is stands.1 cuts reads refl
+    (subst (λ o. IfSome o (λ said. JoinsFrame said bytes (record there { line = None }) result new)) stands.1 joins)
 
 -- ---- frame by frame
 

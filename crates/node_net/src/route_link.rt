@@ -491,6 +491,21 @@ impl RouteLink {
         }
     }
 
+    /// Joins the line that was read and the payload that has come for it.
+    fn join_payload(&mut self, payload: Bytes) -> Result<(), Ran>
+        ensures same { ReadsOn self.old self.new }
+        ensures err { IfErr result EndsReading }
+        ensures there { OnOk result (IsSome self.new.ahead) }
+        ensures ahead { OnErr result (self.new.ahead ≡ self.old.ahead) }
+        ensures reads { IfSome self.old.line (λ line.
+            JoinsFrame line payload (record self.old { line = None }) result self.new) }
+    {
+        match self.line.take() {
+            Some(line) => self.join(line, payload),
+            None => Err(Ran::Refused),
+        }
+    }
+
     /// Reads the payload of the frame that is begun, where one is to come, and joins it to its line.
     fn end_frame(&mut self) -> Result<(), Ran>
         ensures same { ReadsOn self.old self.new }
@@ -499,13 +514,12 @@ impl RouteLink {
         ensures ahead { OnErr result (self.new.ahead ≡ self.old.ahead) }
         ensures reads { IsBegun self.old → ReadsAhead self.old result self.new }
     {
-        if let Some((line, payload)) = self.unjoined.take() {
-            return self.join(line, payload);
-        }
-        let payload = self.next_payload()?;
-        match self.line.take() {
-            Some(line) => self.join(line, payload),
-            None => Err(Ran::Refused),
+        match self.unjoined.take() {
+            Some((line, payload)) => self.join(line, payload),
+            None => match self.next_payload() {
+                Ok(payload) => self.join_payload(payload),
+                Err(end) => Err(end),
+            },
         }
     }
 
