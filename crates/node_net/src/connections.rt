@@ -113,13 +113,6 @@ impl<S: Stream> Connections<S> {
         Ok(key)
     }
 
-    /// Something has happened.
-    pub fn tell(&mut self, event: Event)
-        ensures { self.new.table ≡ self.old.table }
-    {
-        self.events.note(event);
-    }
-
     /// The connection is served in the next turn, although nothing may tell of it.
     fn serve_later(&mut self, key: usize) {
         if let Some(connection) = self.table.get_mut(key) {
@@ -555,7 +548,7 @@ impl<S: Stream> Connections<S> {
         };
         if is_silent {
             let event = self.refused(key, RefusalCause::Silent);
-            self.tell(event);
+            self.events.note(event);
         }
     }
 

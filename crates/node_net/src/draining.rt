@@ -129,7 +129,7 @@ impl<S: Stream, C: ServerCalls> Server<S, C> {
                 let now = self.connections.now;
                 self.drain.stage = Stage::Tells;
                 self.drain.deadline = now.saturating_add(seconds.saturating_mul(1_000));
-                self.connections.tell(Event::DrainAsked { seconds });
+                self.connections.events.note(Event::DrainAsked { seconds });
             }
             Stage::Tells | Stage::Pauses | Stage::Closes => self.drain.deadline = 0,
             Stage::Done => {}
@@ -243,7 +243,7 @@ impl<S: Stream, C: ServerCalls> Server<S, C> {
         self.drain.stage = Stage::Done;
         self.connections.end_draining();
         let clients = self.drain.cut_off;
-        self.connections.tell(if self.drain.is_late {
+        self.connections.events.note(if self.drain.is_late {
             Event::DrainedLate { clients }
         } else {
             Event::Drained

@@ -208,7 +208,7 @@ impl<S: Stream, C: ServerCalls> Server<S, C> {
     /// The route of a connection is refused for this cause, which is told.
     pub(crate) fn refuse(&mut self, key: usize, cause: RefusalCause) {
         let event = self.refusal_at(key, cause);
-        self.connections.tell(event);
+        self.connections.events.note(event);
         self.connections.give_up_for(key, Cause::Refused);
     }
 

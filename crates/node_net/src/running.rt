@@ -439,8 +439,8 @@ impl<C: ServerCalls> Server<TcpStream, C> {
     /// A connection was not taken for this cause.
     fn tell_refused(&mut self, side: Side, cause: RefusalCause) {
         if let Some(caller) = caller_of(side) {
-            self.connections
-                .tell(Event::ConnectionRefused { caller, cause });
+            let event = Event::ConnectionRefused { caller, cause };
+            self.connections.events.note(event);
         }
     }
 

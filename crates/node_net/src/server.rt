@@ -199,7 +199,7 @@ impl<S: Stream, C: ServerCalls> Server<S, C> {
         self.note_stranger(key);
         if let Some(client) = self.client_at(key) {
             self.clients.add(client, key);
-            self.connections.tell(Event::ClientCame { client });
+            self.connections.events.note(Event::ClientCame { client });
         }
     }
 
@@ -318,7 +318,7 @@ impl<S: Stream, C: ServerCalls> Server<S, C> {
         self.gone = self.gone.saturating_add(1);
         self.clients.lose(client);
         if let Some(event) = connection.farewell(client) {
-            self.connections.tell(event);
+            self.connections.events.note(event);
         }
     }
 
@@ -341,7 +341,7 @@ impl<S: Stream, C: ServerCalls> Server<S, C> {
         }
         self.guard.lose_stranger(key);
         if connection.cause.is_none() {
-            self.connections.tell(Event::ConnectionRefused {
+            self.connections.events.note(Event::ConnectionRefused {
                 caller: Caller::Server {
                     from: connection.came_from(),
                 },
@@ -358,7 +358,7 @@ impl<S: Stream, C: ServerCalls> Server<S, C> {
     /// The session with the server at this place is kept, which was not reached before.
     pub(crate) fn tell_up(&mut self, place: usize) {
         if let Some(peer) = self.peer_at(place) {
-            self.connections.tell(Event::PeerUp { peer });
+            self.connections.events.note(Event::PeerUp { peer });
         }
     }
 
@@ -368,7 +368,7 @@ impl<S: Stream, C: ServerCalls> Server<S, C> {
     {
         if let Some(peer) = self.peer_at(place) {
             let cause = peer_cause(cause);
-            self.connections.tell(Event::PeerDown { peer, cause });
+            self.connections.events.note(Event::PeerDown { peer, cause });
         }
     }
 }

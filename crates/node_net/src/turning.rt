@@ -111,7 +111,7 @@ impl<S: Stream, C: ServerCalls> Server<S, C> {
         self.write_frames(rt);
         self.end_drain();
         if self.connections.is_short && !was_short {
-            self.connections.tell(Event::OutOfMemory);
+            self.connections.events.note(Event::OutOfMemory);
         }
     }
 
