@@ -18,9 +18,8 @@ use peer_proof::Secret;
 use rand_pcg::Pcg64;
 use route_session::SessionId;
 use server_calls::{ServerCalls, ShardCalls};
-use server_events::{ClientCause, Event};
+use server_events::{Caller, ClientCause, Event, RefusalCause};
 use std::alloc::{AllocError, Global};
-use std::net::SocketAddr;
 use std::sync::Wait;
 use subj::{ConnId, Failure, READ_BYTES, ServerIdentity as Life};
 use wire_cut::FillFault;
@@ -380,22 +379,17 @@ impl<S: Stream> Connection<S> {
         self.wire.has_failed()
     }
 
-    /// Whether the other end sends nothing any more.
-    pub fn has_ended(&self) -> bool
-        ensures { result ≡ self.now.wire.has_ended }
-    {
-        self.wire.has_ended()
-    }
-
-    /// Its other end sends nothing any more: a route is closed. Whether it is a client that goes on.
-    pub fn end(&mut self) -> bool {
-        if self.ending() != Ending::Open {
+    /// Where its other end sends nothing any more, a route is closed, and a client is given up at this time, or earlier where it would have been.
+    /// Whether it is a client that goes on.
+    pub fn end(&mut self, deadline: u64) -> bool {
+        if !self.wire.has_ended() || self.ending() != Ending::Open {
             return false;
         }
         if self.client().is_none() {
             self.give_up();
             return false;
         }
+        self.limit(deadline);
         true
     }
 
@@ -571,9 +565,16 @@ impl<S: Stream> Connection<S> {
         self.is_unknown() && !self.awaits_stream
     }
 
-    /// Whence its other end came, which has dialed and is to tell still who it is, where that is known.
-    pub fn came_from(&self) -> Option<SocketAddr> {
-        self.route()?.came_from()
+    /// What is told of its other end, which has dialed, or would be another server, and is refused for this cause.
+    pub fn refused(&self, cause: RefusalCause) -> Event {
+        let from = match self.route() {
+            None => None,
+            Some(route) => route.came_from(),
+        };
+        Event::ConnectionRefused {
+            caller: Caller::Server { from },
+            cause,
+        }
     }
 
     /// Whether it is a route whose other end is to tell still who it is.

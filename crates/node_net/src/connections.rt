@@ -8,22 +8,11 @@ ghost use Rattle.node_net.specs.Sending.{SendsWhole, Rests, IsNoted, IsBlamed, G
 ghost use Rattle.node_net.specs.Telling.{ReachesAt};
 
 use crate::connection::{Cause, Connection, Ending};
-use crate::handshake::Proving;
-use crate::limits::{
-    DIAL, GREETING, IDLE, IDLE_STEP, LAST_BYTES, RETRY, ROUTE_STALL, STRANGER_STAY,
-};
-use crate::route_link::Stepped;
-use crate::taken::Taken;
+use crate::limits::{IDLE, IDLE_STEP, LAST_BYTES, RETRY, ROUTE_STALL};
 use net_streams::Stream;
-use peer_proof::Secret;
-use rand_pcg::Pcg64;
-use route_session::SessionId;
-use server_calls::ServerCalls;
-use server_events::{Caller, Event, Events, RefusalCause};
+use server_events::{Events, RefusalCause};
 use slab::Slab;
 use std::alloc::{AllocError, Global};
-use std::sync::Wait;
-use subj::ServerIdentity as Life;
 
 /// The connections of a server, by their keys. In each list of keys but `awaited` each stands once, and there is room for all.
 #[derive(Drop)]
@@ -157,16 +146,6 @@ impl<S: Stream> Connections<S> {
 
     /// Reads of a connection once, and once a turn. Whether it did.
     pub fn read(&mut self, key: usize) -> bool {
-        if !self.begin(key) {
-            return false;
-        }
-        self.read_once(key);
-        self.rest_later(key);
-        true
-    }
-
-    /// Begins to serve a connection, where it was not served in this turn. Whether it did.
-    fn begin(&mut self, key: usize) -> bool {
         let Some(connection) = self.table.get_mut(key) else {
             return false;
         };
@@ -174,13 +153,9 @@ impl<S: Stream> Connections<S> {
             return false;
         }
         connection.served_in = self.turns;
+        self.is_short |= connection.read();
+        self.rest_later(key);
         true
-    }
-
-    fn read_once(&mut self, key: usize) {
-        if let Some(connection) = self.table.get_mut(key) {
-            self.is_short |= connection.read();
-        }
     }
 
     /// Writes what was kept for a connection, as far as its stream takes it.
@@ -204,87 +179,18 @@ impl<S: Stream> Connections<S> {
         }
     }
 
-    /// The other end of a connection is known to send nothing any more: it is read until its end.
-    pub fn hang_up(&mut self, key: usize) {
-        if let Some(connection) = self.table.get_mut(key) {
-            connection.hangs_up = true;
-        }
-    }
-
-    /// Whether the other end of a connection sends nothing any more.
-    pub fn has_ended(&self, key: usize) -> bool {
-        match self.table.get(key) {
-            None => false,
-            Some(connection) => connection.has_ended(),
-        }
-    }
-
-    /// The other end of a connection sends nothing any more: a route is closed, and a client has at most [`LAST_BYTES`] from now. Whether it is
+    /// Where the other end of a connection sends nothing any more, a route is closed, and a client has at most [`LAST_BYTES`] from now. Whether it is
     /// a client that goes on.
     pub fn end(&mut self, key: usize) -> bool {
+        let deadline = self.last_bytes();
         let is_client = match self.table.get_mut(key) {
             None => false,
-            Some(connection) => connection.end(),
+            Some(connection) => connection.end(deadline),
         };
         if is_client {
-            self.limit(key);
+            self.await_deadline(key);
         }
         is_client
-    }
-
-    /// Does what a connection asks next, where it goes on.
-    pub fn step<C: ServerCalls, R: Wait>(
-        &mut self,
-        rt: &R,
-        key: usize,
-        node: C,
-        life: &Life,
-        words: &mut Pcg64,
-    ) -> Option<Stepped> {
-        match self.table.get_mut(key) {
-            None => None,
-            Some(connection) => connection.step(rt, node, life, words),
-        }
-    }
-
-    /// Goes on with the handshake of a route: what the next line comes to.
-    pub fn hear(&mut self, key: usize, secret: &Secret, life: &Life) -> Proving {
-        match self.table.get_mut(key) {
-            None => Proving::Waits,
-            Some(connection) => connection.hear(secret, life),
-        }
-    }
-
-    /// A route of the server at this place, which dialed and has proved itself, gets this session.
-    pub fn admit(&mut self, key: usize, place: usize, session: SessionId) {
-        if let Some(connection) = self.table.get_mut(key) {
-            connection.admit(place, session);
-        }
-    }
-
-    /// A client leaves its shard, and has what waits for it sent to it, which is taken for that.
-    pub fn leave<C: ServerCalls, R: Wait>(
-        &mut self,
-        rt: &R,
-        key: usize,
-        node: C,
-        taken: &mut Taken,
-    ) -> Result<(), AllocError> {
-        taken.clear();
-        let left = match self.table.get_mut(key) {
-            None => Ok(()),
-            Some(connection) => connection.leave(rt, node, &mut taken.lent),
-        };
-        taken.let_go_of_lent();
-        left
-    }
-
-    /// Closes some of the subscriptions of a client that has many. Whether it did.
-    pub fn close_some<C: ServerCalls, R: Wait>(&mut self, rt: &R, key: usize, node: C) -> bool {
-        match self.table.get_mut(key) {
-            None => false,
-            Some(connection) => connection.close_some(rt, node),
-        }
     }
 
     /// Notes what is to become of a connection that was served.
@@ -305,30 +211,6 @@ impl<S: Stream> Connections<S> {
         self.is_short = true;
         if let Some(connection) = self.table.get_mut(key) {
             connection.is_short = true;
-        }
-    }
-
-    /// The stream of a connection is to be connected still, and has [`DIAL`] from now for that.
-    pub fn await_stream(&mut self, key: usize) {
-        let deadline = self.now.saturating_add(DIAL);
-        if let Some(connection) = self.table.get_mut(key) {
-            connection.await_stream(deadline);
-        }
-        self.await_deadline(key);
-    }
-
-    /// The stream of a connection is connected. Where it was to be still, its other end has [`GREETING`] from now to tell who it is.
-    pub fn connected(&mut self, key: usize) {
-        let deadline = self.now.saturating_add(GREETING);
-        if let Some(connection) = self.table.get_mut(key) {
-            connection.connected(deadline);
-        }
-    }
-
-    /// The session of a route is kept: it is not given up for having none.
-    pub fn lift_limit(&mut self, key: usize) {
-        if let Some(connection) = self.table.get_mut(key) {
-            connection.lift_limit();
         }
     }
 
@@ -446,24 +328,9 @@ impl<S: Stream> Connections<S> {
         self.leave_if_gone(key);
     }
 
-    /// The same, for this cause.
-    pub fn shut_for(&mut self, key: usize, cause: Cause) {
-        self.blame(key, cause, 0);
-        self.shut(key);
-    }
-
     /// Until when a connection that is shut now may stay.
     pub fn last_bytes(&self) -> u64 {
         self.now.saturating_add(LAST_BYTES)
-    }
-
-    /// A connection that goes on has at most [`LAST_BYTES`] from now.
-    fn limit(&mut self, key: usize) {
-        let deadline = self.last_bytes();
-        if let Some(connection) = self.table.get_mut(key) {
-            connection.limit(deadline);
-        }
-        self.await_deadline(key);
     }
 
     /// A route for which something waits has [`ROUTE_STALL`] from when its stream took a byte of it.
@@ -509,15 +376,6 @@ impl<S: Stream> Connections<S> {
         is_any_idle
     }
 
-    /// Whether a route that has [`GREETING`] to tell who it is came [`STRANGER_STAY`] ago, or earlier.
-    pub fn has_stayed(&self, key: usize) -> bool {
-        let latest = self.now.saturating_add(GREETING - STRANGER_STAY);
-        match self.table.get(key) {
-            None => false,
-            Some(connection) => connection.deadline() <= latest,
-        }
-    }
-
     /// Whether the deadline of a connection has come.
     fn is_overdue(&self, key: usize) -> bool {
         match self.table.get(key) {
@@ -542,25 +400,10 @@ impl<S: Stream> Connections<S> {
 
     /// The other end of a route did not tell in time who it is, although it could.
     fn tell_silent(&mut self, key: usize) {
-        let is_silent = match self.table.get(key) {
-            None => false,
-            Some(connection) => connection.is_silent(),
-        };
-        if is_silent {
-            let event = self.refused(key, RefusalCause::Silent);
-            self.events.note(event);
-        }
-    }
-
-    /// What is told of another server that has dialed, or who would be one, and is refused for this cause.
-    pub fn refused(&self, key: usize, cause: RefusalCause) -> Event {
-        let from = match self.table.get(key) {
-            None => None,
-            Some(connection) => connection.came_from(),
-        };
-        Event::ConnectionRefused {
-            caller: Caller::Server { from },
-            cause,
+        if let Some(connection) = self.table.get(key) {
+            if connection.is_silent() {
+                self.events.note(connection.refused(RefusalCause::Silent));
+            }
         }
     }
 

@@ -6,7 +6,7 @@ use crate::connection::{Cause, Link};
 use crate::faults::AddFault;
 use crate::handshake::{Handshake, Proving, Said};
 use crate::holds::accept;
-use crate::limits::STRANGERS;
+use crate::limits::{GREETING, STRANGERS, STRANGER_STAY};
 use crate::route_link::{RouteLink, Stage};
 use crate::server::{Server, encode_info};
 use arrayvec::ArrayVec;
@@ -144,29 +144,25 @@ impl<S: Stream, C: ServerCalls> Server<S, C> {
         boxed(self.alloc, Handshake::Dialer(dialer))
     }
 
-    /// Whether there is a place for one stranger more: a free one, or that of the one that came first, where it has stayed long enough.
+    /// Whether there is a place for one stranger more: a free one, or that of the one that came first, where it came [`STRANGER_STAY`] ago or earlier.
     fn has_place(&self) -> bool {
-        match self.guard.first_of_all() {
-            None => true,
-            Some(first) => self.connections.has_stayed(first),
+        let Some(first) = self.guard.first_of_all() else {
+            return true;
+        };
+        let latest = self.connections.now.saturating_add(GREETING - STRANGER_STAY);
+        match self.connections.table.get(first) {
+            None => false,
+            Some(connection) => connection.deadline() <= latest,
         }
     }
 
-    /// A connection was taken: a stranger gets a place, where there is one for it. Whoever had that place is refused.
+    /// Somebody who has dialed was taken: where the mesh has a secret it is a stranger, who gets a place. Whoever had that place is refused.
     pub(crate) fn note_stranger(&mut self, key: usize) {
-        if !self.is_of_stranger(key) {
+        if !self.has_secret() {
             return;
         }
         if let Some(first) = self.guard.take_stranger(key) {
             self.refuse(first, RefusalCause::TooManyStrangers);
-        }
-    }
-
-    /// Whether the connection is of somebody who is to prove still which server it is.
-    fn is_of_stranger(&self, key: usize) -> bool {
-        match self.connections.table.get(key) {
-            None => false,
-            Some(connection) => connection.is_of_stranger(),
         }
     }
 
@@ -175,7 +171,10 @@ impl<S: Stream, C: ServerCalls> Server<S, C> {
         let Some(secret) = &self.guard.secret else {
             return;
         };
-        match self.connections.hear(key, secret, &self.life) {
+        let Some(connection) = self.connections.table.get_mut(key) else {
+            return;
+        };
+        match connection.hear(secret, &self.life) {
             Proving::Waits => {}
             Proving::Answers { answer, .. } => self.say(key, Said::Answer(answer)),
             Proving::Reached(mac) => self.say(key, Said::Proof(mac)),
@@ -196,7 +195,9 @@ impl<S: Stream, C: ServerCalls> Server<S, C> {
         self.guard.lose_stranger(key);
         match accept(rt, self.node) {
             Ok((session, info)) => {
-                self.connections.admit(key, place, session);
+                if let Some(connection) = self.connections.table.get_mut(key) {
+                    connection.admit(place, session);
+                }
                 self.encoded.clear();
                 let is_whole = encode_info(info, &mut self.encoded).is_ok();
                 self.connections.send_encoded(key, &self.encoded, is_whole);
@@ -207,17 +208,12 @@ impl<S: Stream, C: ServerCalls> Server<S, C> {
 
     /// The route of a connection is refused for this cause, which is told.
     pub(crate) fn refuse(&mut self, key: usize, cause: RefusalCause) {
-        let event = self.refusal_at(key, cause);
-        self.connections.events.note(event);
-        self.connections.give_up_for(key, Cause::Refused);
-    }
-
-    /// What is told of a route that is refused for this cause.
-    fn refusal_at(&self, key: usize, cause: RefusalCause) -> Event {
-        match self.dialed_at(key) {
-            Some(peer) => Event::PeerRefused { peer, cause },
-            None => self.connections.refused(key, cause),
+        if let Some(peer) = self.dialed_at(key) {
+            self.connections.events.note(Event::PeerRefused { peer, cause });
+        } else if let Some(connection) = self.connections.table.get(key) {
+            self.connections.events.note(connection.refused(cause));
         }
+        self.connections.give_up_for(key, Cause::Refused);
     }
 
     /// The name of the server that a connection dials.

@@ -588,10 +588,10 @@ impl<C: ServerCalls> Server<TcpStream, C> {
         rounds: &mut Rounds,
     ) -> Result<(), AllocError> {
         let has_closed = event.is_read_closed() || event.is_error();
-        if has_closed {
-            self.connections.hang_up(key);
-        } else {
+        if !has_closed {
             self.connected(key);
+        } else if let Some(connection) = self.connections.table.get_mut(key) {
+            connection.hangs_up = true;
         }
         if has_closed || event.is_readable() {
             return rounds.note(key);

@@ -10,9 +10,8 @@ use crate::connection::{Cause, Connection, Link};
 use crate::connections::Connections;
 use crate::draining::Drain;
 use crate::faults::AddFault;
-use crate::handshake::Handshake;
 use crate::holds::{accept, attach, cut, dial};
-use crate::limits::GREETING;
+use crate::limits::{DIAL, GREETING};
 use crate::peers::Peers;
 use crate::proving::Guard;
 use crate::route_link::{RouteLink, Stage};
@@ -22,9 +21,8 @@ use net_streams::Stream;
 use rand_core::SeedableRng;
 use rand_pcg::Pcg64;
 use route_frames::{RouteFrame, RouteInfo, encode};
-use route_session::SessionId;
 use server_calls::ServerCalls;
-use server_events::{Caller, Event, Events, PeerCause, RefusalCause};
+use server_events::{Event, Events, PeerCause, RefusalCause};
 use shard_core::DirtyConns;
 use std::alloc::{AllocError, Global};
 use std::net::SocketAddr;
@@ -169,20 +167,28 @@ impl<S: Stream, C: ServerCalls> Server<S, C> {
     pub fn add<R: Wait>(&mut self, rt: &R, stream: S, side: Side) -> Result<usize, AddFault> {
         self.reserve()?;
         let connection = self.connection(rt, stream, side)?;
+        let client = connection.client();
         let key = self.connections.add(connection)?;
-        self.note_added(key, side);
+        self.note_added(key, side, client);
         Ok(key)
     }
 
-    /// The stream of a connection, which was dialed, is to be connected still. It is given up where it is not within [`DIAL`](crate::limits::DIAL),
-    /// and no line tells of it.
+    /// The stream of a connection, which was dialed, is to be connected still. It is given up where it is not within [`DIAL`], and no line tells of
+    /// it.
     pub fn await_stream(&mut self, key: usize) {
-        self.connections.await_stream(key);
+        let deadline = self.connections.now.saturating_add(DIAL);
+        if let Some(connection) = self.connections.table.get_mut(key) {
+            connection.await_stream(deadline);
+        }
+        self.connections.await_deadline(key);
     }
 
     /// The stream of a connection is connected. Where it was to be still, its other end has [`GREETING`] from now to tell who it is.
     pub fn connected(&mut self, key: usize) {
-        self.connections.connected(key);
+        let deadline = self.connections.now.saturating_add(GREETING);
+        if let Some(connection) = self.connections.table.get_mut(key) {
+            connection.connected(deadline);
+        }
     }
 
     /// Makes room for one connection more, wherever it may stand.
@@ -191,21 +197,17 @@ impl<S: Stream, C: ServerCalls> Server<S, C> {
         self.clients.reserve()
     }
 
-    /// Notes what leads to a connection that was taken.
-    fn note_added(&mut self, key: usize, side: Side) {
-        if let Side::Dialed(peer) = side {
-            self.peers.dial(peer, key);
+    /// Notes what leads to a connection that was taken, which is of this client where it is of one.
+    fn note_added(&mut self, key: usize, side: Side, client: Option<ConnId>) {
+        match side {
+            Side::Client => {}
+            Side::Accepted(_) => self.note_stranger(key),
+            Side::Dialed(peer) => self.peers.dial(peer, key),
         }
-        self.note_stranger(key);
-        if let Some(client) = self.client_at(key) {
+        if let Some(client) = client {
             self.clients.add(client, key);
             self.connections.events.note(Event::ClientCame { client });
         }
-    }
-
-    /// The client at the other end of a connection.
-    fn client_at(&self, key: usize) -> Option<ConnId> {
-        self.connections.table.get(key)?.client()
     }
 
     /// The connection of a stream. A route is to tell who it is before [`GREETING`] has passed.
@@ -252,7 +254,7 @@ impl<S: Stream, C: ServerCalls> Server<S, C> {
             return Err(AddFault::OutOfMemory);
         }
         let stage = Stage::Accepted { from, proved: None };
-        Ok(self.route(session, stage, None))
+        Ok(Link::Route(RouteLink::new(self.alloc, Some(session), stage, None)))
     }
 
     /// The server at this place, which is dialed.
@@ -262,13 +264,13 @@ impl<S: Stream, C: ServerCalls> Server<S, C> {
         } else {
             None
         };
-        let session = dial(rt, self.node, peer)?;
-        Ok(self.route(session, Stage::Dialed(peer), proof))
-    }
-
-    /// A route of which nothing was read.
-    fn route(&self, session: SessionId, stage: Stage, proof: Option<Box<Handshake>>) -> Link {
-        Link::Route(RouteLink::new(self.alloc, Some(session), stage, proof))
+        match dial(rt, self.node, peer) {
+            Err(fault) => Err(AddFault::from(fault)),
+            Ok(session) => {
+                let stage = Stage::Dialed(peer);
+                Ok(Link::Route(RouteLink::new(self.alloc, Some(session), stage, proof)))
+            }
+        }
     }
 
     /// Takes a connection out: a client's is detached, the session of a route is cut. No other connection
@@ -327,7 +329,10 @@ impl<S: Stream, C: ServerCalls> Server<S, C> {
         ensures { self.new.connections.table ≡ self.old.connections.table }
     {
         if let Some(place) = self.peers.place_of(key) {
-            self.tell_down(place, cause);
+            if let Some(peer) = self.peer_at(place) {
+                let cause = peer_cause(cause);
+                self.connections.events.note(Event::PeerDown { peer, cause });
+            }
         }
         self.peers.lose(key);
     }
@@ -341,12 +346,7 @@ impl<S: Stream, C: ServerCalls> Server<S, C> {
         }
         self.guard.lose_stranger(key);
         if connection.cause.is_none() {
-            self.connections.events.note(Event::ConnectionRefused {
-                caller: Caller::Server {
-                    from: connection.came_from(),
-                },
-                cause: RefusalCause::Left,
-            });
+            self.connections.events.note(connection.refused(RefusalCause::Left));
         }
     }
 
@@ -359,16 +359,6 @@ impl<S: Stream, C: ServerCalls> Server<S, C> {
     pub(crate) fn tell_up(&mut self, place: usize) {
         if let Some(peer) = self.peer_at(place) {
             self.connections.events.note(Event::PeerUp { peer });
-        }
-    }
-
-    /// The session with the server at this place is kept no more.
-    fn tell_down(&mut self, place: usize, cause: Option<Cause>)
-        ensures { self.new.connections.table ≡ self.old.connections.table }
-    {
-        if let Some(peer) = self.peer_at(place) {
-            let cause = peer_cause(cause);
-            self.connections.events.note(Event::PeerDown { peer, cause });
         }
     }
 }

@@ -155,19 +155,17 @@ impl<S: Stream, C: ServerCalls> Server<S, C> {
         }
         self.prove(rt, key);
         self.apply(rt, key);
-        if self.connections.has_ended(key) {
-            self.end(rt, key);
-        }
+        self.end(rt, key);
         self.connections.settle(key);
     }
 
     /// Does what a connection asks.
     fn apply<R: Wait>(&mut self, rt: &R, key: usize) {
         for _run in 0..u64::MAX {
-            let stepped = self
-                .connections
-                .step(rt, key, self.node, &self.life, &mut self.words);
-            let goes_on = match stepped {
+            let Some(connection) = self.connections.table.get_mut(key) else {
+                return;
+            };
+            let goes_on = match connection.step(rt, self.node, &self.life, &mut self.words) {
                 None => false,
                 Some(Stepped::Greeted(greeted)) => self.greet(key, greeted),
                 Some(Stepped::Ran(run)) => self.after_run(rt, key, run),
@@ -193,7 +191,8 @@ impl<S: Stream, C: ServerCalls> Server<S, C> {
     /// Notes what a run has come to, what it has told, and what it has handed to the shards.
     fn note_run<R: Wait>(&mut self, rt: &R, key: usize, run: RunOutcome) {
         if run.end == Ran::Shut {
-            self.connections.shut_for(key, shut_cause(run));
+            self.connections.blame(key, shut_cause(run), 0);
+            self.connections.shut(key);
         }
         if run.has_deltas {
             let _done = self.tell_of(rt, key);
@@ -231,7 +230,9 @@ impl<S: Stream, C: ServerCalls> Server<S, C> {
             Some(old) => self.connections.give_up(old),
             None => self.tell_up(greeted.peer),
         }
-        self.connections.lift_limit(key);
+        if let Some(connection) = self.connections.table.get_mut(key) {
+            connection.lift_limit();
+        }
         if let Some(answer) = greeted.answer {
             self.send_answer(key, answer);
         }
@@ -372,7 +373,7 @@ impl<S: Stream, C: ServerCalls> Server<S, C> {
         }
     }
 
-    /// The other end of a connection sends nothing any more. A route is closed. A client is a member of nothing any more, once all is
+    /// Where the other end of a connection sends nothing any more, a route is closed. A client is a member of nothing any more, once all is
     /// done that it asked for; what waits for it is written, and then it is closed, and at the latest at its deadline.
     fn end<R: Wait>(&mut self, rt: &R, key: usize) {
         if !self.connections.end(key) {
@@ -398,7 +399,12 @@ impl<S: Stream, C: ServerCalls> Server<S, C> {
         if !self.close_subscriptions(rt, key) {
             return Err(AllocError);
         }
-        let left = self.connections.leave(rt, key, self.node, &mut self.taken);
+        self.taken.clear();
+        let left = match self.connections.table.get_mut(key) {
+            None => Ok(()),
+            Some(connection) => connection.leave(rt, self.node, &mut self.taken.lent),
+        };
+        self.taken.let_go_of_lent();
         let _done = self.tell_of(rt, key);
         left
     }
@@ -407,7 +413,10 @@ impl<S: Stream, C: ServerCalls> Server<S, C> {
     /// closed, since few changes have room at once. Whether there was memory for that.
     fn close_subscriptions<R: Wait>(&mut self, rt: &R, key: usize) -> bool {
         for _some in 0..u64::MAX {
-            if !self.connections.close_some(rt, key, self.node) {
+            let Some(connection) = self.connections.table.get_mut(key) else {
+                return true;
+            };
+            if !connection.close_some(rt, self.node) {
                 return true;
             }
             if !self.tell_of(rt, key) {
