@@ -362,6 +362,11 @@ impl<S: Stream> Connection<S> {
         is_done && self.ending() == Ending::Open && self.client().is_some()
     }
 
+    /// Whether it is of a client, and does not go at the end of the turn.
+    pub fn is_client(&self) -> bool {
+        self.client().is_some() && self.ending() != Ending::Gone
+    }
+
     /// Whether it goes on.
     pub fn ending(&self) -> Ending
         ensures { result ≡ ending_of self.now }

@@ -3,7 +3,7 @@
 
 ghost use Rattle.std.specs.Prelude.{◌≡◌};
 
-use crate::connection::{Cause, Ending};
+use crate::connection::Cause;
 use crate::connections::Connections;
 use crate::limits::DRAIN_PAUSE;
 use crate::server::Server;
@@ -69,18 +69,6 @@ impl Drain {
 }
 
 impl<S: Stream> Connections<S> {
-    /// From now on, clients that go on are closed once nothing waits for them: each is looked at, and later each that was served or written to.
-    fn begin_draining(&mut self) {
-        self.drains = true;
-        self.looks_at_all = true;
-    }
-
-    /// All clients are gone.
-    fn end_draining(&mut self) {
-        self.drains = false;
-        self.quiet.clear();
-    }
-
     /// A client that was served or written to may have nothing more that waits for it.
     pub fn note_quiet(&mut self, key: usize)
         ensures { self.new.table ≡ self.old.table }
@@ -90,28 +78,15 @@ impl<S: Stream> Connections<S> {
         }
     }
 
-    /// Whether it is the connection of a client that goes on, of which all that has come was done, and for which nothing waits.
-    fn is_quiet(&self, key: usize) -> bool {
-        match self.table.get(key) {
-            None => false,
-            Some(connection) => connection.is_quiet(),
-        }
-    }
-
-    /// Whether it is the connection of a client that does not go at the end of the turn.
-    fn is_client(&self, key: usize) -> bool {
-        match self.table.get(key) {
-            None => false,
-            Some(connection) => connection.client().is_some()
-                && connection.ending() != Ending::Gone,
-        }
-    }
-
     /// Closes all clients that are there still, whatever waits for them. Gives how many.
     fn cut_off(&mut self) -> u64 {
         let mut count = 0_u64;
         for key in 0..self.table.capacity() {
-            if self.is_client(key) {
+            let is_client = match self.table.get(key) {
+                None => false,
+                Some(connection) => connection.is_client(),
+            };
+            if is_client {
                 self.give_up_for(key, Cause::CutOff);
                 count = count.saturating_add(1);
             }
@@ -180,11 +155,13 @@ impl<S: Stream, C: ServerCalls> Server<S, C> {
         }
     }
 
-    /// The pause is over once its time has come: clients are closed from then on.
+    /// The pause is over once its time has come. From then on, clients are closed once nothing waits for them: each is looked at, and later each that
+    /// was served or written to.
     fn end_pause(&mut self) {
         if self.connections.now >= self.drain.closes_at {
             self.drain.stage = Stage::Closes;
-            self.connections.begin_draining();
+            self.connections.drains = true;
+            self.connections.looks_at_all = true;
         }
     }
 
@@ -210,7 +187,11 @@ impl<S: Stream, C: ServerCalls> Server<S, C> {
     /// A client for which nothing waits leaves its shard, and is closed once its last bytes are written. Where there is no memory for that, it is
     /// tried again.
     fn close_if_quiet<R: Wait>(&mut self, rt: &R, key: usize) {
-        if !self.connections.is_quiet(key) {
+        let is_quiet = match self.connections.table.get(key) {
+            None => false,
+            Some(connection) => connection.is_quiet(),
+        };
+        if !is_quiet {
             return;
         }
         if self.leave(rt, key).is_ok() {
@@ -241,7 +222,8 @@ impl<S: Stream, C: ServerCalls> Server<S, C> {
             return;
         }
         self.drain.stage = Stage::Done;
-        self.connections.end_draining();
+        self.connections.drains = false;
+        self.connections.quiet.clear();
         let clients = self.drain.cut_off;
         self.connections.events.note(if self.drain.is_late {
             Event::DrainedLate { clients }

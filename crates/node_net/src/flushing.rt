@@ -66,16 +66,8 @@ impl Awaited<'_> {
 }
 
 impl<S: Stream> Connections<S> {
-    /// Writes what was kept for these connections, as far as their streams take it.
-    fn write_all_kept(&mut self, awaited: Awaited<'_>) {
-        for place in 0..awaited.count() {
-            if let Some(key) = awaited.key(place) {
-                self.write_kept(key);
-            }
-        }
-    }
-
-    /// The same of a shard that is held.
+    /// Takes what waits for clients of the shard, which is held, from this place among these on, until enough is taken. The place where it goes
+    /// on.
     #[tactic(auto, using(crate::proofs::TakingLemmas::taken_none, crate::proofs::TakingLemmas::taken_to, crate::proofs::TakingLemmas::taken_all))]
     pub fn take_from<H: ShardCalls>(
         &mut self,
@@ -148,24 +140,17 @@ impl<S: Stream> Connections<S> {
     }
 
     /// Closes a client that its shard has shut. Whether it was open before.
+    #[tactic(auto, using(crate::proofs::KeyedLemmas::changes_none, crate::proofs::KeyedLemmas::changes_some))]
     fn shut_if_slow<H: ShardCalls>(&mut self, shard: &H, key: usize) -> bool
         ensures { ChangesAt IsLimited key self.old.table self.new.table }
     {
         let deadline = self.last_bytes();
-        let was_open = self.shut_at(shard, key, deadline);
-        self.await_deadline(key);
-        was_open
-    }
-
-    /// The same, where it may stay until this time.
-    #[tactic(auto, using(crate::proofs::KeyedLemmas::changes_none, crate::proofs::KeyedLemmas::changes_some))]
-    fn shut_at<H: ShardCalls>(&mut self, shard: &H, key: usize, deadline: u64) -> bool
-        ensures { ChangesAt IsLimited key self.old.table self.new.table }
-    {
-        match self.table.get_mut(key) {
+        let was_open = match self.table.get_mut(key) {
             None => false,
             Some(connection) => connection.shut_if_slow(shard, deadline),
-        }
+        };
+        self.await_deadline(key);
+        was_open
     }
 
     /// Takes what waits for a client of the shard out of its outbox, and puts it behind what stands there.
@@ -344,7 +329,11 @@ impl<S: Stream, C: ServerCalls> Server<S, C> {
 
     /// Takes and writes what waits for clients of a shard, which are among these. What was kept for them is written first.
     fn flush_awaited<R: Wait>(&mut self, rt: &R, number: u64, awaited: Awaited<'_>) {
-        self.connections.write_all_kept(awaited);
+        for place in 0..awaited.count() {
+            if let Some(key) = awaited.key(place) {
+                self.connections.write_kept(key);
+            }
+        }
         self.flush_all(rt, number, awaited);
     }
 
