@@ -11,6 +11,7 @@ ghost use Rattle.node_net.specs.Sending.{SendsTaken, IsLimited, KeepsStream};
 ghost use Rattle.node_net.specs.Taking.{all_parts, keys_of, client_in, LendsAt, TakesOne, TakesOn, SendsPart, SendsEach, GoesOnAt, FlushesSome, FlushesAll};
 ghost use Rattle.node_net.specs.Telling.{spelling, TellsFrames, TellsSome, TellsPeer};
 
+use crate::clients::Clients;
 use crate::connection::{Cause, Ending};
 use crate::connections::Connections;
 use crate::holds::{swap_dirty_conns, take_frames};
@@ -21,6 +22,7 @@ use crate::taken::Taken;
 use net_streams::Stream;
 use route_frames::{Numbered, RouteFrame, encode};
 use server_calls::{HubCalls, ServerCalls, ShardCalls};
+use shard_core::DirtyConns;
 use std::alloc::{AllocError, Global};
 use std::sync::Wait;
 use subj::{Failure, MAX_PAYLOAD};
@@ -250,6 +252,21 @@ impl<S: Stream> Connections<S> {
     }
 }
 
+/// Puts the connections of the clients that something was put for into the list, and behind them those that were served.
+fn put_keys(
+    clients: &Clients,
+    dirty_conns: &DirtyConns,
+    served: &[usize],
+    keys: &mut Vec<usize>,
+) -> Result<(), AllocError> {
+    for id in dirty_conns.conns() {
+        if let Some(key) = clients.key_of(*id) {
+            keys.push(key)?;
+        }
+    }
+    keys.extend_from_slice(served)
+}
+
 /// How many frames are taken at once for another server for which so many bytes wait already: no more than have room, as large as they
 /// may be, and one at least.
 fn frames_beside(backlog: usize) -> usize {
@@ -309,22 +326,15 @@ impl<S: Stream, C: ServerCalls> Server<S, C> {
     fn flush_shard<R: Wait>(&mut self, rt: &R, number: u64, served: &[usize], is_any: bool) {
         swap_dirty_conns(rt, self.node, number, &mut self.dirty_conns);
         let mut keys = Vec::new(self.alloc);
-        if is_any || self.dirty_conns.is_any() || self.put_keys(served, &mut keys).is_err() {
+        if is_any
+            || self.dirty_conns.is_any()
+            || put_keys(&self.clients, &self.dirty_conns, served, &mut keys).is_err()
+        {
             let all = Awaited::All(self.connections.table.capacity());
             self.flush_awaited(rt, number, all);
         } else {
             self.flush_awaited(rt, number, Awaited::These(&keys));
         }
-    }
-
-    /// Puts the connections that something was put for into the list, and behind them those that were served.
-    fn put_keys(&self, served: &[usize], keys: &mut Vec<usize>) -> Result<(), AllocError> {
-        for id in self.dirty_conns.conns() {
-            if let Some(key) = self.clients.key_of(*id) {
-                keys.push(key)?;
-            }
-        }
-        keys.extend_from_slice(served)
     }
 
     /// Takes and writes what waits for clients of a shard, which are among these. What was kept for them is written first.

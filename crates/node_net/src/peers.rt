@@ -4,6 +4,7 @@ ghost use Rattle.std.specs.Prelude.{◌≡◌, ◌*◌, min};
 
 use crate::limits::{FIRST_PAUSE, LAST_PAUSE, STOOD};
 use std::alloc::{AllocError, Global};
+use subj::{NodeId, ServerIdentity as Life};
 
 /// What leads to one other server.
 #[derive(Clone, Copy)]
@@ -18,6 +19,11 @@ struct PeerLink {
 #[derive(Drop)]
 pub(crate) struct Peers {
     links: Vec<PeerLink>,
+}
+
+/// The name of the server at this place of the cluster.
+pub(crate) fn name_at(life: &Life, place: usize) -> Option<NodeId> {
+    life.names().get(place).copied()
 }
 
 /// Whether it is this connection.
@@ -59,7 +65,7 @@ impl Peers {
     }
 
     /// The place of the server that this connection dials.
-    pub fn dialed_place(&self, key: usize) -> Option<usize> {
+    fn dialed_place(&self, key: usize) -> Option<usize> {
         for (place, link) in self.links.iter().enumerate() {
             if is_at(link.dialed, key) {
                 return Some(place);
@@ -68,8 +74,18 @@ impl Peers {
         None
     }
 
+    /// The name of the server that this connection dials.
+    pub fn dialed_name(&self, key: usize, life: &Life) -> Option<NodeId> {
+        name_at(life, self.dialed_place(key)?)
+    }
+
+    /// Whether another server stands at this place that is not reached and is not being dialed.
+    pub fn is_missing(&self, life: &Life, place: usize) -> bool {
+        life.is_peer(place) && !self.is_reached(place)
+    }
+
     /// Whether the server at this place is reached, or is being dialed.
-    pub fn is_reached(&self, place: usize) -> bool {
+    fn is_reached(&self, place: usize) -> bool {
         match self.links.get(place) {
             None => false,
             Some(link) => link.kept.is_some() || link.dialed.is_some(),

@@ -6,7 +6,8 @@ use crate::connection::{Cause, Link};
 use crate::faults::AddFault;
 use crate::handshake::{Handshake, Proving, Said};
 use crate::holds::accept;
-use crate::limits::{GREETING, STRANGERS, STRANGER_STAY};
+use crate::limits::{GREETING, STRANGER_STAY, STRANGERS};
+use crate::peers::name_at;
 use crate::route_link::{RouteLink, Stage};
 use crate::server::{Server, encode_info};
 use arrayvec::ArrayVec;
@@ -18,7 +19,7 @@ use server_events::{Event, RefusalCause};
 use std::alloc::Global;
 use std::net::SocketAddr;
 use std::sync::Wait;
-use subj::{Failure, NodeId};
+use subj::Failure;
 
 /// What a server knows its peers by, where the mesh has a secret.
 #[derive(Drop)]
@@ -132,7 +133,7 @@ impl<S: Stream, C: ServerCalls> Server<S, C> {
 
     /// This end of the handshake with the server at this place, which is dialed and is told what is encoded.
     pub(crate) fn greeting(&mut self, peer: usize) -> Result<Box<Handshake>, AddFault> {
-        let Some(name) = self.peer_at(peer) else {
+        let Some(name) = name_at(&self.life, peer) else {
             return Err(AddFault::NoWord);
         };
         let dialer = Dialer {
@@ -149,7 +150,10 @@ impl<S: Stream, C: ServerCalls> Server<S, C> {
         let Some(first) = self.guard.first_of_all() else {
             return true;
         };
-        let latest = self.connections.now.saturating_add(GREETING - STRANGER_STAY);
+        let latest = self
+            .connections
+            .now
+            .saturating_add(GREETING - STRANGER_STAY);
         match self.connections.table.get(first) {
             None => false,
             Some(connection) => connection.deadline() <= latest,
@@ -208,16 +212,13 @@ impl<S: Stream, C: ServerCalls> Server<S, C> {
 
     /// The route of a connection is refused for this cause, which is told.
     pub(crate) fn refuse(&mut self, key: usize, cause: RefusalCause) {
-        if let Some(peer) = self.dialed_at(key) {
-            self.connections.events.note(Event::PeerRefused { peer, cause });
+        if let Some(peer) = self.peers.dialed_name(key, &self.life) {
+            self.connections
+                .events
+                .note(Event::PeerRefused { peer, cause });
         } else if let Some(connection) = self.connections.table.get(key) {
             self.connections.events.note(connection.refused(cause));
         }
         self.connections.give_up_for(key, Cause::Refused);
-    }
-
-    /// The name of the server that a connection dials.
-    fn dialed_at(&self, key: usize) -> Option<NodeId> {
-        self.peer_at(self.peers.dialed_place(key)?)
     }
 }

@@ -369,7 +369,10 @@ impl<C: ServerCalls> Server<TcpStream, C> {
         let patience = self.patience(rounds);
         rounds.poll.poll(events, patience)?;
         self.set_time(rounds.time(rt)?);
-        self.note_events(events, rounds)
+        for event in &*events {
+            self.note_event(event, rounds)?;
+        }
+        Ok(())
     }
 
     /// Takes all clients and routes that wait.
@@ -387,7 +390,7 @@ impl<C: ServerCalls> Server<TcpStream, C> {
         rounds.has_failed = clients_fail || routes_fail;
     }
 
-    /// Takes all that wait here. Whether accepting failed, which is told where it had not failed before.
+    /// Takes all that wait here, and counts those that are clients. Whether accepting failed, which is told where it had not failed before.
     fn accept_from<R: Wait + RandomSource>(
         &mut self,
         rt: &R,
@@ -402,38 +405,21 @@ impl<C: ServerCalls> Server<TcpStream, C> {
             }
             match door.accept(rt, mesh.addresses) {
                 Accepted::Stream(stream, side) => {
-                    self.take_in(rt, poll, side, mesh.shutdown, stream);
+                    if self.take(rt, poll, stream, side) && is_client(side) {
+                        mesh.shutdown.take();
+                    }
                 }
                 Accepted::Stranger(side) => self.tell_refused(side, RefusalCause::Stranger),
                 Accepted::Nothing => door.has_more = false,
                 Accepted::Failed(cause) => {
-                    self.tell_failed(&*door, cause, had_failed);
+                    if !had_failed {
+                        self.tell_refused(door.side, RefusalCause::System(cause));
+                    }
                     return true;
                 }
             }
         }
         false
-    }
-
-    /// Takes a stream that came in here. A client is counted.
-    fn take_in<R: Wait + RandomSource>(
-        &mut self,
-        rt: &R,
-        poll: &Poll,
-        side: Side,
-        shutdown: &Shutdown,
-        stream: TcpStream,
-    ) {
-        if self.take(rt, poll, stream, side) && is_client(side) {
-            shutdown.take();
-        }
-    }
-
-    /// Accepting failed, which is told where it had not failed before.
-    fn tell_failed(&mut self, door: &Door, cause: SystemCause, had_failed: bool) {
-        if !had_failed {
-            self.tell_refused(door.side, RefusalCause::System(cause));
-        }
     }
 
     /// A connection was not taken for this cause.
@@ -513,7 +499,7 @@ impl<C: ServerCalls> Server<TcpStream, C> {
             let now = self.connections.now;
             rounds.redials.look(place, now, is_reached);
             addresses.note(place, is_reached);
-            if self.is_missing(place) && rounds.redials.is_due(place, now) {
+            if self.peers.is_missing(&self.life, place) && rounds.redials.is_due(place, now) {
                 rounds.redials.dial(place, now);
                 self.dial(rt, &rounds.poll, place, addresses.dial(rt, place));
             }
@@ -544,7 +530,7 @@ impl<C: ServerCalls> Server<TcpStream, C> {
         let now = self.connections.now;
         let mut until = self.next_turn().unwrap_or(u64::MAX);
         for place in 0..self.peers.count() {
-            if self.is_missing(place) {
+            if self.peers.is_missing(&self.life, place) {
                 until = until.min(rounds.redials.due(place));
             }
         }
@@ -555,14 +541,6 @@ impl<C: ServerCalls> Server<TcpStream, C> {
             return None;
         }
         Some(Duration::from_millis(until.saturating_sub(now)))
-    }
-
-    /// Notes which connections are ready.
-    fn note_events(&mut self, events: &Events, rounds: &mut Rounds) -> io::Result<()> {
-        for event in events {
-            self.note_event(event, rounds)?;
-        }
-        Ok(())
     }
 
     /// Notes which connection is ready, or where connections come in.

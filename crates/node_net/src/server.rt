@@ -12,7 +12,7 @@ use crate::draining::Drain;
 use crate::faults::AddFault;
 use crate::holds::{accept, attach, cut, dial};
 use crate::limits::{DIAL, GREETING};
-use crate::peers::Peers;
+use crate::peers::{Peers, name_at};
 use crate::proving::Guard;
 use crate::route_link::{RouteLink, Stage};
 use crate::taken::Taken;
@@ -27,7 +27,7 @@ use shard_core::DirtyConns;
 use std::alloc::{AllocError, Global};
 use std::net::SocketAddr;
 use std::sync::Wait;
-use subj::{ConnId, HostText, NodeId, ServerIdentity as Life};
+use subj::{ConnId, HostText, ServerIdentity as Life};
 
 /// Who is at the other end of a stream.
 #[derive(Clone, Copy)]
@@ -155,11 +155,6 @@ impl<S: Stream, C: ServerCalls> Server<S, C> {
     /// What has happened since it was told last.
     pub fn events(&self) -> &Events {
         &self.connections.events
-    }
-
-    /// Whether there is another server at this place that is not reached and is not being dialed.
-    pub(crate) fn is_missing(&self, place: usize) -> bool {
-        self.life.is_peer(place) && !self.peers.is_reached(place)
     }
 
     /// Takes a stream, with this end at its other side, and answers its key. What a client or a server that
@@ -329,9 +324,11 @@ impl<S: Stream, C: ServerCalls> Server<S, C> {
         ensures { self.new.connections.table ≡ self.old.connections.table }
     {
         if let Some(place) = self.peers.place_of(key) {
-            if let Some(peer) = self.peer_at(place) {
+            if let Some(peer) = name_at(&self.life, place) {
                 let cause = peer_cause(cause);
-                self.connections.events.note(Event::PeerDown { peer, cause });
+                self.connections
+                    .events
+                    .note(Event::PeerDown { peer, cause });
             }
         }
         self.peers.lose(key);
@@ -346,18 +343,15 @@ impl<S: Stream, C: ServerCalls> Server<S, C> {
         }
         self.guard.lose_stranger(key);
         if connection.cause.is_none() {
-            self.connections.events.note(connection.refused(RefusalCause::Left));
+            self.connections
+                .events
+                .note(connection.refused(RefusalCause::Left));
         }
-    }
-
-    /// The name of the server at this place.
-    pub(crate) fn peer_at(&self, place: usize) -> Option<NodeId> {
-        self.life.names().get(place).copied()
     }
 
     /// The session with the server at this place is kept, which was not reached before.
     pub(crate) fn tell_up(&mut self, place: usize) {
-        if let Some(peer) = self.peer_at(place) {
+        if let Some(peer) = name_at(&self.life, place) {
             self.connections.events.note(Event::PeerUp { peer });
         }
     }

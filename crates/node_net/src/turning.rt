@@ -73,6 +73,12 @@ pub(crate) fn work_held<H: ShardCalls, R: Wait>(rt: &R, shard: &mut H) -> Worked
     worked
 }
 
+/// The place of the shard that is worked first, of so many, behind a round that began with this one: another one each time.
+fn next_first(first: u64, count: u64) -> u64 {
+    let next = first.saturating_add(1);
+    if next < count { next } else { 0 }
+}
+
 /// Encodes what a server that was dialed is told back.
 fn encode_answer(answer: RouteConnect, encoded: &mut Vec<u8>) -> Result<(), AllocError> {
     encode(&RouteFrame::Connect(answer), encoded)
@@ -176,7 +182,7 @@ impl<S: Stream, C: ServerCalls> Server<S, C> {
         }
     }
 
-    /// What follows a run. Whether the connection goes on.
+    /// What follows a run: what was put is taken and written where it has come to enough. Whether the connection goes on.
     fn after_run<R: Wait>(&mut self, rt: &R, key: usize, run: RunOutcome) -> bool {
         self.note_run(rt, key, run);
         if run.issued > 0 || run.end == Ran::Busy {
@@ -184,7 +190,12 @@ impl<S: Stream, C: ServerCalls> Server<S, C> {
             let node = self.node;
             self.work(rt, node);
         }
-        self.count_put(rt, run);
+        self.put = self.put.saturating_add(run.issued);
+        self.put = self.put.saturating_add(run.replied);
+        if self.put >= TAKEN_EARLY {
+            self.flush(rt);
+            self.write_frames(rt);
+        }
         self.goes_on_after(key, run.end)
     }
 
@@ -199,16 +210,6 @@ impl<S: Stream, C: ServerCalls> Server<S, C> {
         }
         let jobs = run.jobs.saturating_mul(self.node.shards());
         self.unworked = self.unworked.saturating_add(jobs);
-    }
-
-    /// Notes how much a run has put, as bytes, and takes and writes it where it has come to enough.
-    fn count_put<R: Wait>(&mut self, rt: &R, run: RunOutcome) {
-        self.put = self.put.saturating_add(run.issued);
-        self.put = self.put.saturating_add(run.replied);
-        if self.put >= TAKEN_EARLY {
-            self.flush(rt);
-            self.write_frames(rt);
-        }
     }
 
     /// Whether a connection goes on behind a run that ended so.
@@ -234,16 +235,11 @@ impl<S: Stream, C: ServerCalls> Server<S, C> {
             connection.lift_limit();
         }
         if let Some(answer) = greeted.answer {
-            self.send_answer(key, answer);
+            self.encoded.clear();
+            let is_whole = encode_answer(answer, &mut self.encoded).is_ok();
+            self.connections.send_encoded(key, &self.encoded, is_whole);
         }
         true
-    }
-
-    /// Sends another server the answer to what it was told first.
-    fn send_answer(&mut self, key: usize, answer: RouteConnect) {
-        self.encoded.clear();
-        let is_whole = encode_answer(answer, &mut self.encoded).is_ok();
-        self.connections.send_encoded(key, &self.encoded, is_whole);
     }
 
     /// Works all shards until no job waits. Jobs that a lane had no memory for are handed over again, and where there is none still in
@@ -287,18 +283,10 @@ impl<S: Stream, C: ServerCalls> Server<S, C> {
         ensures { WorksEach C.Shard.worked C.Shard.number (C.lacks node) result (C.count node) }
     {
         let count = node.shards();
-        let first = self.next_first(count);
+        let first = next_first(self.first, count);
+        self.first = first;
         let is_urgent = self.work_between(rt, node, first, count);
         is_urgent | self.work_between(rt, node, 0, first)
-    }
-
-    /// The place of the shard that is worked first, of so many: another one each time.
-    fn next_first(&mut self, count: u64) -> u64 {
-        self.first = self.first.saturating_add(1);
-        if self.first >= count {
-            self.first = 0;
-        }
-        self.first
     }
 
     /// Works the shards behind this place, up to that one. Whether some are to be worked on once what was put is taken.
@@ -449,18 +437,13 @@ impl<S: Stream, C: ServerCalls> Server<S, C> {
     fn close_leaving<R: Wait>(&mut self, rt: &R) {
         for place in 0..self.connections.begin_closing() {
             if let Some(key) = self.connections.going(place) {
-                self.close_or_keep(rt, key);
+                if self.close(rt, key).is_err() {
+                    self.connections.is_short = true;
+                    self.connections.leave_if_gone(key);
+                }
             }
         }
         self.connections.going.clear();
-    }
-
-    /// Closes a connection, later where there is no memory for that.
-    fn close_or_keep<R: Wait>(&mut self, rt: &R, key: usize) {
-        if self.close(rt, key).is_err() {
-            self.connections.is_short = true;
-            self.connections.leave_if_gone(key);
-        }
     }
 
     /// Closes a connection. Want of memory leaves it there.
