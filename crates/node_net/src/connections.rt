@@ -61,6 +61,11 @@ fn insert<T: Drop>(table: &mut Slab<T>, value: T) -> Result<usize, AllocError> {
     }
 }
 
+/// Until when a connection that is shut at this time may stay.
+pub(crate) fn last_bytes(now: u64) -> u64 {
+    now.saturating_add(LAST_BYTES)
+}
+
 impl<S: Stream> Connections<S> {
     /// There are none.
     pub fn new(alloc: Global) -> Connections<S> {
@@ -182,7 +187,7 @@ impl<S: Stream> Connections<S> {
     /// Where the other end of a connection sends nothing any more, a route is closed, and a client has at most [`LAST_BYTES`] from now. Whether it is
     /// a client that goes on.
     pub fn end(&mut self, key: usize) -> bool {
-        let deadline = self.last_bytes();
+        let deadline = last_bytes(self.now);
         let is_client = match self.table.get_mut(key) {
             None => false,
             Some(connection) => connection.end(deadline),
@@ -312,7 +317,7 @@ impl<S: Stream> Connections<S> {
 
     /// A connection is closed once all that waits for it is written, and at the latest [`LAST_BYTES`] from now.
     pub fn shut(&mut self, key: usize) {
-        let deadline = self.last_bytes();
+        let deadline = last_bytes(self.now);
         if let Some(connection) = self.table.get_mut(key) {
             connection.shut(deadline);
         }
@@ -326,11 +331,6 @@ impl<S: Stream> Connections<S> {
         }
         self.await_bytes(key);
         self.leave_if_gone(key);
-    }
-
-    /// Until when a connection that is shut now may stay.
-    pub fn last_bytes(&self) -> u64 {
-        self.now.saturating_add(LAST_BYTES)
     }
 
     /// A route for which something waits has [`ROUTE_STALL`] from when its stream took a byte of it.

@@ -35,7 +35,7 @@ struct ControlLink {
 }
 
 /// What reading an operator's line came to.
-#[derive(Clone, Copy, PartialEq, Eq)]
+#[derive(Clone, Copy)]
 enum Heard {
     /// Its first so many bytes are a line.
     Line(usize),

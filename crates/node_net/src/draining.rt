@@ -77,22 +77,6 @@ impl<S: Stream> Connections<S> {
             self.looks_at_all = true;
         }
     }
-
-    /// Closes all clients that are there still, whatever waits for them. Gives how many.
-    fn cut_off(&mut self) -> u64 {
-        let mut count = 0_u64;
-        for key in 0..self.table.capacity() {
-            let is_client = match self.table.get(key) {
-                None => false,
-                Some(connection) => connection.is_client(),
-            };
-            if is_client {
-                self.give_up_for(key, Cause::CutOff);
-                count = count.saturating_add(1);
-            }
-        }
-        count
-    }
 }
 
 impl<S: Stream, C: ServerCalls> Server<S, C> {
@@ -203,12 +187,22 @@ impl<S: Stream, C: ServerCalls> Server<S, C> {
         }
     }
 
-    /// The drain ends now: all clients that are there still are closed at the end of this turn.
+    /// The drain ends now: all clients that are there still are closed at the end of this turn, whatever waits for them.
     fn cut_off(&mut self) {
         self.drain.deadline = u64::MAX;
         self.drain.is_late = true;
-        self.drain.cut_off = self.connections.cut_off();
+        self.drain.cut_off = 0;
         self.drain.stage = Stage::Closes;
+        for key in 0..self.connections.table.capacity() {
+            let is_client = match self.connections.table.get(key) {
+                None => false,
+                Some(connection) => connection.is_client(),
+            };
+            if is_client {
+                self.connections.give_up_for(key, Cause::CutOff);
+                self.drain.cut_off = self.drain.cut_off.saturating_add(1);
+            }
+        }
     }
 
     /// Notes that the server has drained, where all its clients are gone, and what they published is written to the other servers; a drain that

@@ -13,7 +13,7 @@ ghost use Rattle.node_net.specs.Telling.{spelling, TellsFrames, TellsSome, Tells
 
 use crate::clients::Clients;
 use crate::connection::{Cause, Ending};
-use crate::connections::Connections;
+use crate::connections::{Connections, last_bytes};
 use crate::holds::{swap_dirty_conns, take_frames};
 use crate::limits::{FRAMES, PEER_BACKLOG, TAKEN_AT_ONCE};
 use crate::parts::{Parts, let_go_beyond};
@@ -146,7 +146,7 @@ impl<S: Stream> Connections<S> {
     fn shut_if_slow<H: ShardCalls>(&mut self, shard: &H, key: usize) -> bool
         ensures { ChangesAt IsLimited key self.old.table self.new.table }
     {
-        let deadline = self.last_bytes();
+        let deadline = last_bytes(self.now);
         let was_open = match self.table.get_mut(key) {
             None => false,
             Some(connection) => connection.shut_if_slow(shard, deadline),
@@ -177,16 +177,12 @@ impl<S: Stream> Connections<S> {
         ensures { ((taken.old.lent.items ≡ []) × (all_parts taken.new ≡ all_parts taken.old))
             ⊎ (all_parts taken.new ≡ taken.old.parts ++ (key, taken.old.lent.items) ∷ []) }
     {
-        if !taken.lent.is_empty() || (is_all && self.is_shut(key)) {
-            taken.put_part(key);
-        }
-    }
-
-    /// Whether the connection is closed once all that waits for it is written.
-    fn is_shut(&self, key: usize) -> bool {
-        match self.table.get(key) {
+        let is_shut = match self.table.get(key) {
             None => false,
             Some(connection) => connection.ending() == Ending::Shut,
+        };
+        if !taken.lent.is_empty() || (is_all && is_shut) {
+            taken.put_part(key);
         }
     }
 

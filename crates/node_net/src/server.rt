@@ -160,7 +160,7 @@ impl<S: Stream, C: ServerCalls> Server<S, C> {
     /// Takes a stream, with this end at its other side, and answers its key. What a client or a server that
     /// dialed is told first goes out with the next turn. A stream that is refused is closed. May wait.
     pub fn add<R: Wait>(&mut self, rt: &R, stream: S, side: Side) -> Result<usize, AddFault> {
-        self.reserve()?;
+        self.connections.reserve()?;
         let connection = self.connection(rt, stream, side)?;
         let client = connection.client();
         let key = self.connections.add(connection)?;
@@ -184,12 +184,6 @@ impl<S: Stream, C: ServerCalls> Server<S, C> {
         if let Some(connection) = self.connections.table.get_mut(key) {
             connection.connected(deadline);
         }
-    }
-
-    /// Makes room for one connection more, wherever it may stand.
-    fn reserve(&mut self) -> Result<(), AllocError> {
-        self.connections.reserve()?;
-        self.clients.reserve()
     }
 
     /// Notes what leads to a connection that was taken, which is of this client where it is of one.
@@ -234,6 +228,7 @@ impl<S: Stream, C: ServerCalls> Server<S, C> {
 
     /// The next client, who is told first by its shard.
     fn client<R: Wait>(&mut self, rt: &R) -> Result<Link, AddFault> {
+        self.clients.reserve()?;
         let number = self.came.saturating_add(1);
         let shard = shard_of_client(number, self.life.shards());
         let link = attach(rt, self.node, self.alloc, shard, &self.info)?;
@@ -346,13 +341,6 @@ impl<S: Stream, C: ServerCalls> Server<S, C> {
             self.connections
                 .events
                 .note(connection.refused(RefusalCause::Left));
-        }
-    }
-
-    /// The session with the server at this place is kept, which was not reached before.
-    pub(crate) fn tell_up(&mut self, place: usize) {
-        if let Some(peer) = name_at(&self.life, place) {
-            self.connections.events.note(Event::PeerUp { peer });
         }
     }
 }

@@ -8,6 +8,7 @@ ghost use Rattle.node_net.specs.Turning.{Works, WorksShard, WorksBetween, WorksE
 use crate::connection::Cause;
 use crate::holds::{push_jobs, work_shard};
 use crate::limits::TAKEN_EARLY;
+use crate::peers::name_at;
 use crate::route_link::{Greeted, Stepped};
 use crate::runs::{Ran, RunOutcome};
 use crate::server::Server;
@@ -227,9 +228,10 @@ impl<S: Stream, C: ServerCalls> Server<S, C> {
     /// The session of a route is kept. The connection goes on.
     fn greet(&mut self, key: usize, greeted: Greeted) -> bool {
         self.connections.has_told = true;
-        match self.peers.keep(greeted.peer, key) {
-            Some(old) => self.connections.give_up(old),
-            None => self.tell_up(greeted.peer),
+        if let Some(old) = self.peers.keep(greeted.peer, key) {
+            self.connections.give_up(old);
+        } else if let Some(peer) = name_at(&self.life, greeted.peer) {
+            self.connections.events.note(Event::PeerUp { peer });
         }
         if let Some(connection) = self.connections.table.get_mut(key) {
             connection.lift_limit();
@@ -367,18 +369,14 @@ impl<S: Stream, C: ServerCalls> Server<S, C> {
         if !self.connections.end(key) {
             return;
         }
-        if self.is_behind(key) || self.leave(rt, key).is_err() {
+        let Some(connection) = self.connections.table.get(key) else {
+            return;
+        };
+        let is_behind = connection.is_short || self.unworked > 0;
+        if is_behind || self.leave(rt, key).is_err() {
             self.connections.postpone(key);
         } else {
             self.connections.shut(key);
-        }
-    }
-
-    /// Whether something that the connection asked for is still to be done.
-    fn is_behind(&self, key: usize) -> bool {
-        match self.connections.table.get(key) {
-            None => false,
-            Some(connection) => connection.is_short || self.unworked > 0,
         }
     }
 
