@@ -160,8 +160,8 @@ impl<S: Stream, C: ServerCalls> Server<S, C> {
     /// Takes a stream, with this end at its other side, and answers its key. What a client or a server that
     /// dialed is told first goes out with the next turn. A stream that is refused is closed. May wait.
     pub fn add<R: Wait>(&mut self, rt: &R, stream: S, side: Side) -> Result<usize, AddFault> {
-        self.connections.reserve()?;
-        let connection = self.connection(rt, stream, side)?;
+        let link = self.link(rt, side)?;
+        let connection = self.connection(stream, link);
         let client = connection.client();
         let key = self.connections.add(connection)?;
         self.note_added(key, side, client);
@@ -199,25 +199,20 @@ impl<S: Stream, C: ServerCalls> Server<S, C> {
         }
     }
 
-    /// The connection of a stream. A route is to tell who it is before [`GREETING`] has passed.
-    fn connection<R: Wait>(
-        &mut self,
-        rt: &R,
-        stream: S,
-        side: Side,
-    ) -> Result<Connection<S>, AddFault> {
-        self.encoded.clear();
-        let link = self.link(rt, side)?;
+    /// The connection of a stream, which is sent what is encoded. A route is to tell who it is before [`GREETING`] has passed.
+    fn connection(&self, stream: S, link: Link) -> Connection<S> {
         let mut connection = Connection::new(self.alloc, stream, link);
         if connection.is_unknown() {
             connection.limit(self.connections.now.saturating_add(GREETING));
         }
         connection.send(&self.encoded);
-        Ok(connection)
+        connection
     }
 
-    /// What is known of whoever is at the other end. What that is told first is encoded.
+    /// What is known of whoever is at the other end, once there is room for one connection more. What that is told first is encoded.
     fn link<R: Wait>(&mut self, rt: &R, side: Side) -> Result<Link, AddFault> {
+        self.connections.reserve()?;
+        self.encoded.clear();
         match side {
             Side::Client => self.client(rt),
             Side::Accepted(from) if self.has_secret() => self.stranger(from),
