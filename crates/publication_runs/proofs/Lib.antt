@@ -1,0 +1,6 @@
+mod Bytes
+mod Names
+mod Fields
+mod Scanned
+mod Spelt
+mod Readings

@@ -1,0 +1,24 @@
+//! Publications that stand one behind another at the beginning of a text, read in one pass.
+//!
+//! ```text
+//! let mut run = PlainRun::new(b"PUB a 2\r\nhi\r\nPUB a 2\r\nho\r\nPING\r\n", 32, 4_096);
+//! while let Some(publication) = run.next() {
+//!     serve(publication.subject, publication.payload);
+//! }
+//! assert_eq!(rt; run.behind(), b"PING\r\n".as_slice());
+//! ```
+//!
+//! Where a line has to come next, a text that begins with such publications is read as just these, in order, and then as what stands behind
+//! them (`run_is_read`). So whoever scans them may use up their bytes at once.
+//!
+//! In reading order: `runs` scans the publications, `lines` judges the line of one, and `cuts` cuts a text; `laws` has what holds of the
+//! definitions.
+#![tactic(auto)]
+
+mod cuts;
+mod laws;
+mod lines;
+mod runs;
+
+pub use laws::{publication_is_read, run_is_found, run_is_read};
+pub use runs::{PlainPublication, PlainRun};
