@@ -488,6 +488,7 @@ fn lone_call(
         "drain" => done_told(answer, shard.drain()),
         "detach" => count_told(answer, shard.detach(conn)),
         "has_nothing_for" => tell_whether(answer, shard.has_nothing_for(conn)),
+        "is_urgent" => tell_whether(answer, shard.is_urgent()),
         "has_room_for" => has_room_for(answer, shard, alloc, words),
         "take" => take(answer, shard, alloc, words, false),
         "take_last" => take(answer, shard, alloc, words, true),
