@@ -1,5 +1,5 @@
-//! The race of a server's shards without a lock: one table of words, on which each shard steps with a
-//! seat of its own.
+//! The race of a server's shards for queue names, on threads: a table of atomic words that the hub and each shard
+//! change without a lock, each through a seat of its own.
 //!
 //! ```text
 //! let (cells, mut hub, mut seats) = Cells::new(alloc, 1)?;

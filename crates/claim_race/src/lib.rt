@@ -1,4 +1,4 @@
-//! The race of a server's shards for the queue names of a publication: one of them wins each.
+//! The race of a server's shards for the queue names of a publication: at most one shard wins each name.
 //!
 //! ```text
 //! let mut race = PlainRace::new(alloc, 2)?;

@@ -1,4 +1,4 @@
-//! The cluster law: what holds of every run of a cluster of NATS routers, proved once, over a pure machine.
+//! The cluster law: what holds of every run of a cluster of NATS servers, proved once, over definitions alone.
 //!
 //! ```text
 //! // A function that calls a law is proved with what the law says.

@@ -1,4 +1,4 @@
-//! The command line of a program: its words, and what is told where they are no command.
+//! The words of a program's command line, and the message if they are not a command.
 //!
 //! ```text
 //! let words = words(&rt)?;

@@ -1,4 +1,5 @@
-//! Standard error tells what happens at the servers of a process: one line for an event, with the time, how grave it is and the server.
+//! Writes the events of a process's servers to standard error: one line for each event, with the time, the level, the server and what
+//! happened.
 //!
 //! ```text
 //! let log = EventLog::start(rt, alloc, LevelFilter::Info)?;

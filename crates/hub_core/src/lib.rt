@@ -1,5 +1,5 @@
-//! The hub of a server: it numbers what its clients publish, splits each queue name over the cluster, keeps
-//! a view of each peer's interest, and tells which frames of peers it takes.
+//! The hub of a server: it numbers what its clients publish, chooses the server that serves each queue name, keeps a
+//! view of each peer's interest, and takes or refuses the frames of peers.
 //!
 //! ```text
 //! let mut hub = Hub::new(alloc, server)?;

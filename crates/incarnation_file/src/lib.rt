@@ -1,4 +1,4 @@
-//! The incarnation of a server, kept in a file of a folder, so that no two starts of it have one.
+//! Keeps the incarnation of a server in a file, so that no two lives of the server have the same incarnation.
 //!
 //! ```text
 //! let mut disk = FileDisk::open(rt, "/var/lib/nats_mesh/n1")?;

@@ -1,5 +1,5 @@
-//! What the clients of a server are interested in: how many subscriptions of each key are open, and
-//! what the other servers are told of it.
+//! The interest of a server's clients: how many subscriptions of each key are open, and which changes of that the other
+//! servers are told.
 //!
 //! ```text
 //! let mut counts = Local::new(alloc)?;

@@ -1,4 +1,4 @@
-//! The fields of a line, as clients and routes write them, and what lines are written with.
+//! Reads the fields of a line of a client or a route, and helps to write such lines.
 //!
 //! ```text
 //! let (first, rest) = split_line(b"UNSUB 7").ok_or("a word")?;

@@ -1,4 +1,5 @@
-//! Words and lemmas for lists that laws speak of: entries of a list, each of them, each two of them, two lists in step.
+//! Definitions and lemmas for the lists that laws speak of: what holds of each entry, of each two entries, and of two
+//! lists entry by entry.
 //!
 //! ```text
 //! // In code:

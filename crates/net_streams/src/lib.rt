@@ -1,5 +1,5 @@
-//! The streams of connections: sockets, and streams in memory that can be made to fail; and what a stream did not
-//! take yet.
+//! The streams of connections, which are sockets or stand in memory and can be made to fail, and the bytes that a
+//! stream has not taken yet.
 //!
 //! ```text
 //! let mut wire = Wire::new(MemStream::new(alloc).with_room(4));

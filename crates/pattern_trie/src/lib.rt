@@ -1,4 +1,4 @@
-//! What is held under patterns, found by the subjects that they match.
+//! Values that are kept by patterns: a look-up by a subject finds those whose pattern matches.
 //!
 //! ```text
 //! let mut trie = PatternTrie::new(alloc);

@@ -1,5 +1,5 @@
-//! What servers of a cluster tell each other: the frames of routes, written and read. What they hold
-//! is of `route_values`, and is named here too, so that a crate above needs no other.
+//! Reads and writes the frames of routes, which the servers of a cluster send each other. What they hold is of
+//! `route_values`, and is named here too, so that a crate above needs no other.
 //!
 //! ```text
 //! let line = RouteLine::read(alloc, text)?;

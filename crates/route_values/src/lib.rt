@@ -1,4 +1,4 @@
-//! What the frames of routes hold, as values that hold only what can be spelt.
+//! The contents of the frames of routes, as values: each value can be spelt as bytes.
 //!
 //! ```text
 //! let key = Key { pattern, queue: None };

@@ -1,4 +1,4 @@
-//! The form of a script.
+//! The form of a script: which bytes are a script, and what each of its steps says.
 //!
 //! ```text
 //! let script = Script::read(alloc, b"{\"nodes\":[\"n1\"],\"shards\":1,\"steps\":[]}")?;

@@ -1,4 +1,5 @@
-//! What happens at a server that whoever runs it wants to know, as values, and those of one turn of its loop until they are told.
+//! The events of a server that its operator wants to know, as values, and a list that keeps the events of one turn of the
+//! server's loop until the log takes them.
 //!
 //! ```text
 //! let mut events = Events::new(alloc);

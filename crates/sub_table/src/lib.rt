@@ -1,4 +1,4 @@
-//! The open subscriptions of a shard: what any table of them keeps, and the plain list.
+//! The open subscriptions of a shard: the contract that every table of them keeps, and a plain list that keeps it.
 //!
 //! ```text
 //! let mut table = ListTable::new(alloc)?;

@@ -1,4 +1,5 @@
-//! Cuts a stream of bytes into lines and payloads, and names where the bytes come from and go to.
+//! Cuts a stream of bytes into lines and payloads; its traits [`Source`] and [`Sink`] are where bytes come from and go
+//! to.
 //!
 //! ```text
 //! let mut cutter = Cutter::new(alloc, 4_096, 1_048_576);
