@@ -632,7 +632,8 @@ pub part_read : (old mid there new : RouteLink) (bytes : List ℕ) (result : Res
 part_read old mid there new bytes result unjoined is begun cuts reads joins =
     let line_is : there.line ≡ mid.line = ap (λ (r : RouteLink). r.line) cuts in
     let stands = line_there there.line (ap is_some line_is ∙ line_begun old mid begun unjoined is) in
-    read_behind old mid there (record there { line = None }) new stands.0 bytes result unjoined is stands.1 cuts reads refl
+    read_behind old mid there (record there { line = None }) new stands.0 bytes result unjoined is stands.1 cuts reads
+    refl
     (subst (λ o. IfSome o (λ said. JoinsFrame said bytes (record there { line = None }) result new)) stands.1 joins)
 
 -- ---- frame by frame

@@ -85,7 +85,12 @@ pub record Told (s : State) (w : Walk) : Type 0 where
       → In u s.subs
       → In u.serial w.ended
       → (is_open u.conn w.clients ≡ false) ⊎ Spends u w.given
-  pub given_ends : (u : Subscription) → In u w.given → (m : ℕ) → u.max ≡ Some m → m ≤ u.delivered + 1 → In u.serial w.ended
+  pub given_ends : (u : Subscription)
+      → In u w.given
+      → (m : ℕ)
+      → u.max ≡ Some m
+      → m ≤ u.delivered + 1
+      → In u.serial w.ended
   pub given_some : Each (λ u. In u s.subs) w.given
 
 pub first_told : (s : State) → Told s (first_step s.clients)
