@@ -15,14 +15,14 @@ use Rattle.mesh_script.specs.Played.{IsPlayed, Plays, Writes, cluster_of}
 use Rattle.mesh_script.specs.Told.{count_came, said_lines, script_lines}
 use Rattle.mesh_script.specs.Playing.{PlayState, Moves, BreaksOff, Finishes, GoesOn, ArePlayedSafely, first_standing}
 use Rattle.mesh_script.proofs.Asking.{told_counts}
-use Rattle.mesh_script.proofs.Names.{apart_names}
+use Rattle.subj.proofs.Apart.{all_apart}
 use Rattle.mesh_script.proofs.Putting.{starts_same, starts_longer, starts_of_puts, write_failed, writes_behind}
 use Rattle.mesh_script.proofs.Texts.{lines_behind, run_front}
 
 pub set_up : (script : Script) → is_cluster script.names script.shards ≡ true → IsCluster (cluster_of script)
 set_up script is = record {
   apart =
-      apart_names script.names
+      all_apart script.names
       (and_true
       (nat_le (length script.names) MAX_NODES && nat_lt 0 (length script.names)
       && (nat_le 1 script.shards && nat_le script.shards MAX_SHARDS))

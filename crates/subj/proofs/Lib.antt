@@ -3,7 +3,7 @@ mod Scanned
 mod Matches
 mod Padded
 mod Fits
-mod Apart
+pub mod Apart
 mod JoinedBodies
 pub mod NameBytes
 pub mod Rising
