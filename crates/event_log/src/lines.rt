@@ -167,6 +167,14 @@ fn write_down<W: Write>(f: &mut Formatter<W>, peer: NodeId, cause: PeerCause) ->
     write!(f, "{} is not reached any more: {cause}", peer.text())
 }
 
+fn write_unresolved<W: Write>(f: &mut Formatter<W>, peer: NodeId) -> fmt::Result {
+    write!(
+        f,
+        "the name of {}'s host has no address: it is looked up again",
+        peer.text()
+    )
+}
+
 fn write_resolved<W: Write>(
     f: &mut Formatter<W>,
     peer: NodeId,
@@ -216,11 +224,7 @@ impl Display for EventText {
             }
             Event::Stopped => f.write_str("stops"),
             Event::Failed { cause } => write!(f, "cannot go on: {}", SystemText(cause)),
-            Event::PeerUnresolved { peer } => write!(
-                f,
-                "the name of {}'s host has no address: it is looked up again",
-                peer.text()
-            ),
+            Event::PeerUnresolved { peer } => write_unresolved(f, peer),
             Event::PeerResolved {
                 peer,
                 address,

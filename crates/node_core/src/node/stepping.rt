@@ -491,8 +491,7 @@ impl<T: SubTable, R: Race> Node<T, R> {
                 Err(fault) => Err(Failure::Refused(fault)),
             },
             OwnEvent::TakeFrames { peer, count } => {
-                let frames = self.take_frames(*peer, *count)?;
-                Ok(Answer::TakenFrames(frames))
+                Ok(Answer::TakenFrames(self.take_frames(*peer, *count)?))
             }
         }
     }
