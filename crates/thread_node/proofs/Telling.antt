@@ -140,94 +140,14 @@ pub hub_tape_starts : (w : AtHub) (server : ServerIdentity) (keep : Bool) (tape 
     → w.side ≡ new_side server
     → w.issued ≡ []
     → tape ≡ cond keep (Some []) None
-    → IsHubTape w tape
+    → IsHubTape server w tape
 hub_tape_starts w server keep tape fresh none is = record {
+  whose = ap (λ (s : HubWithSessions). s.server) fresh;
   log = [];
   led = fresh ∙ ap new_side (sym (ap (λ (s : HubWithSessions). s.server) fresh));
   gave = none;
   grows = subst (Grows (Some []) []) (sym is) (new_tape _ keep);
 }
-
--- one step more, with the jobs of its answer
-pub hub_more : (w v : AtHub) (e : Event) (answer : Answer) (tape more : Option (List HubEntry))
-    → IsHubTape w tape
-    → IsDone w.side e answer v.side
-    → v.issued ≡ w.issued ++ job_in answer
-    → Grows tape (entries_in e answer) more
-    → IsHubTape v more
-hub_more w v e answer tape more t d gave g = record {
-  log = Did (record { before = w.side; event = e; answer = answer }) ∷ t.log;
-  led = (d, subst (λ s. Logs (new_side s) t.log w.side) (sym (same_server w.side v.side e answer d)) t.led);
-  gave = gave ∙ ap (λ l. l ++ job_in answer) t.gave;
-  grows = grows_join (Some []) tape more _ (entries_in e answer) t.grows g;
-}
-
--- the same where it gives no job
-pub hub_does : (w v : AtHub) (e : Event) (answer : Answer) (tape more : Option (List HubEntry))
-    → IsHubTape w tape
-    → HubDoes w e answer v
-    → job_in answer ≡ []
-    → Grows tape (entries_in e answer) more
-    → IsHubTape v more
-hub_does w v e answer tape more t d quiet g =
-    hub_more w v e answer tape more t d.done
-    (ap (λ (x : AtHub). x.issued) d.after ∙ sym (append-nil w.issued) ∙ ap (λ l. w.issued ++ l) (sym quiet)) g
-
--- a look at the shards is no step
-pub hub_looks : (shards : ℕ) (w v : AtHub) (tape : Option (List HubEntry))
-    → Looks shards w v
-    → IsHubTape w tape
-    → IsHubTape v tape
-hub_looks shards w v tape l t =
-    ⊎_elim (λ (same : v ≡ w). subst (λ x. IsHubTape x tape) (sym same) t)
-    (λ (looked : _ × (v ≡ record w { part = v.part; finished = v.finished })).
-    subst (λ x. IsHubTape x tape) (sym looked.1) (record { log = t.log; led = t.led; gave = t.gave; grows = t.grows }))
-    l
-
--- a refusal, by which nothing is done
-pub hub_refused : (w v : AtHub) (e : Event) (why : NodeFault) (tape more : Option (List HubEntry))
-    → IsHubTape w tape
-    → v ≡ w
-    → Refuses w.side e why
-    → Grows tape (entries_with (asked_of e) (told.Refused why ∷ [])) more
-    → IsHubTape v more
-hub_refused w v e why tape more t same r g = subst (λ u. IsHubTape u more) (sym same) (record {
-  log = WasRefused w.side e why ∷ t.log;
-  led = (r, refl, t.led);
-  gave = t.gave;
-  grows = grows_join (Some []) tape more _ (entries_with (asked_of e) (told.Refused why ∷ [])) t.grows g;
-})
-
--- want of memory, for which nothing is done
-hub_short : (w v : AtHub) (tape more : Option (List HubEntry))
-    → IsHubTape w tape
-    → v ≡ w
-    → more ≡ tape
-    → IsHubTape v more
-hub_short w v tape more t same unsaid = subst (λ u. IsHubTape u more) (sym same) (subst (IsHubTape w) (sym unsaid) t)
-
--- an event as it is answered, which gives no job: a step, a refusal, or nothing for want of memory
-pub hub_answered : {X F : Type 0} (w v : AtHub) (e : Event) (asked : HubEvent) (answer : X → Answer)
-    (said : X → HubTold) (fault_of : F → NodeFault) (cause : Option F) (done : Result X (Failure F))
-    (tape more : Option (List HubEntry))
-    → IsHubTape w tape
-    → IsAsked w.side e
-    → side_refusal w.side e ≡ option_map fault_of cause
-    → asked_of e ≡ asked ∷ []
-    → ((x : X) → told_by (answer x) ≡ said x ∷ [])
-    → ((x : X) → job_in (answer x) ≡ [])
-    → IsAnswered cause (λ x. HubDoes w e (answer x) v) (v ≡ w) done
-    → HubNotes asked (told_in (λ fault. told.Refused (fault_of fault)) said done) tape more
-    → IsHubTape v more
-hub_answered w v e asked answer said fault_of cause (Ok x) tape more t may refusal asks tells quiet a n =
-    hub_does w v e (answer x) tape more t a.1 (quiet x)
-    (subst (λ es. Grows tape es more) (λ k. entries_with (sym asks k) (sym (tells x) k)) n)
-hub_answered w v e asked answer said fault_of cause (Err (Refused why)) tape more t may refusal asks tells quiet a n =
-    hub_refused w v e (fault_of why) tape more t a.1
-    (record { asked = may; cause = refusal ∙ ap (option_map fault_of) a.0 })
-    (subst (λ es. Grows tape es more) (λ k. entries_with (sym asks k) (told.Refused (fault_of why) ∷ [])) n)
-hub_answered w v e asked answer said fault_of cause (Err OutOfMemory) tape more t may refusal asks tells quiet a n =
-    hub_short w v tape more t a.1 n
 
 -- the steps of a log lead where it leads
 pub steps_lead : (from : HubWithSessions) (log : List Made) (to : HubWithSessions)
@@ -238,89 +158,177 @@ steps_lead from (Did d ∷ earlier) to (done, logs) = (done, steps_lead from ear
 steps_lead from (WasRefused before event why ∷ earlier) to (refuses, same, logs) =
     subst (Leads from (steps_in earlier)) (sym same) (steps_lead from earlier before logs)
 
--- a publish that is done
-publish_kept : (shards : ℕ) (w v : AtHub) (conn word : ℕ) (publication : Pub) (issued : Issued)
-    (tape more : Option (List HubEntry))
-    → IsHubTape w tape
-    → Publishes shards w (publication_by conn publication word) (Ok issued) v
-    → Grows tape
-    (hub_entry (event.Publish conn publication word v.finished) (told.Issued issued.turn issued.frames) ∷ []) more
-    → IsHubTape v more
-publish_kept shards w v conn word publication issued tape more t d g =
-    let p = publication_by conn publication word in
-    let did = d.answered.1 in
-    hub_more d.seen v _ _ tape more (hub_looks shards w d.seen tape d.looks t) did.issues.done did.issues.issued
-    (subst (λ es. Grows tape es more)
-    ((λ k.
-    hub_entry (event.Publish conn publication word (did.issues.finished k))
-    (told.Issued (did.turn k) (did.frames k)) ∷ []))
-    g)
+-- of the hub of one server
+module _ {server : ServerIdentity} where
+  -- one step more, with the jobs of its answer
+  pub hub_more : (w v : AtHub) (e : Event) (answer : Answer) (tape more : Option (List HubEntry))
+      → IsHubTape server w tape
+      → IsDone w.side e answer v.side
+      → v.issued ≡ w.issued ++ job_in answer
+      → Grows tape (entries_in e answer) more
+      → IsHubTape server v more
+  hub_more w v e answer tape more t d gave g = record {
+    whose = same_server w.side v.side e answer d ∙ t.whose;
+    log = Did (record { before = w.side; event = e; answer = answer }) ∷ t.log;
+    led = (d, subst (λ s. Logs (new_side s) t.log w.side) (sym (same_server w.side v.side e answer d)) t.led);
+    gave = gave ∙ ap (λ l. l ++ job_in answer) t.gave;
+    grows = grows_join (Some []) tape more _ (entries_in e answer) t.grows g;
+  }
 
--- a publish as it is answered
-pub publish_noted : (shards : ℕ) (w v : AtHub) (conn word : ℕ) (publication : Pub)
-    (done : Result Issued (Failure HubFault)) (tape more : Option (List HubEntry))
-    → IsHubTape w tape
-    → Publishes shards w (publication_by conn publication word) done v
-    → HubNotes (event.Publish conn publication word v.finished)
-    (told_of_hub (λ issued. told.Issued issued.turn issued.frames) done) tape more
-    → IsHubTape v more
-publish_noted shards w v conn word publication (Ok issued) tape more t d n =
-    publish_kept shards w v conn word publication issued tape more t d n
-publish_noted shards w v conn word publication (Err (Refused why)) tape more t d n =
-    let p = publication_by conn publication word in
-    let same = d.answered.1 in
-    hub_refused d.seen v (ByHub (of_hub.Publish p d.seen.finished)) (Hub why) tape more
-    (hub_looks shards w d.seen tape d.looks t) same
-    (record { asked = tt; cause = ap (option_map (λ fault. Hub fault)) d.answered.0 })
-    (subst (λ es. Grows tape es more)
-    (λ k.
-    hub_entry (event.Publish conn publication word (ap (λ (x : AtHub). x.finished) same k))
-    (told.Refused (Hub why)) ∷ [])
-    n)
-publish_noted shards w v conn word publication (Err OutOfMemory) tape more t d n =
-    hub_short d.seen v tape more (hub_looks shards w d.seen tape d.looks t) d.answered.1 n
+  -- the same where it gives no job
+  pub hub_does : (w v : AtHub) (e : Event) (answer : Answer) (tape more : Option (List HubEntry))
+      → IsHubTape server w tape
+      → HubDoes w e answer v
+      → job_in answer ≡ []
+      → Grows tape (entries_in e answer) more
+      → IsHubTape server v more
+  hub_does w v e answer tape more t d quiet g =
+      hub_more w v e answer tape more t d.done
+      (ap (λ (x : AtHub). x.issued) d.after ∙ sym (append-nil w.issued) ∙ ap (λ l. w.issued ++ l) (sym quiet)) g
 
--- a frame of a peer that is taken
-receive_kept : (shards : ℕ) (w v : AtHub) (frame : Frame) (received : Received) (tape more : Option (List HubEntry))
-    → IsHubTape w tape
-    → Receives shards w frame (Ok received) v
-    → Grows tape (hub_entry (event.Receive frame v.finished) (of_received received) ∷ []) more
-    → IsHubTape v more
-receive_kept shards w v frame received tape more t d g = go received d.answered.1 g
-  where
-    seen : IsHubTape d.seen tape
-    seen = hub_looks shards w d.seen tape d.looks t
+  -- a look at the shards is no step
+  pub hub_looks : (shards : ℕ) (w v : AtHub) (tape : Option (List HubEntry))
+      → Looks shards w v
+      → IsHubTape server w tape
+      → IsHubTape server v tape
+  hub_looks shards w v tape l t =
+      ⊎_elim (λ (same : v ≡ w). subst (λ x. IsHubTape server x tape) (sym same) t)
+      (λ (looked : _ × (v ≡ record w { part = v.part; finished = v.finished })).
+      subst (λ x. IsHubTape server x tape) (sym looked.1)
+      (record { whose = t.whose; log = t.log; led = t.led; gave = t.gave; grows = t.grows }))
+      l
 
-    go : (received : Received)
-        → IsReceived d.seen frame received v
-        → Grows tape (hub_entry (event.Receive frame v.finished) (of_received received) ∷ []) more
-        → IsHubTape v more
-    go (Routed turn) did g =
-        hub_more d.seen v _ _ tape more seen did.issues.done did.issues.issued
-        (subst (λ es. Grows tape es more)
-        ((λ k. hub_entry (event.Receive frame (did.issues.finished k)) (told.Routed (did.turn_is k)) ∷ [])) g)
-    go (Heard mark) did g =
-        hub_does d.seen v _ _ tape more seen did refl
-        (subst (λ es. Grows tape es more)
-        ((λ k. hub_entry (event.Receive frame (ap (λ (x : AtHub). x.finished) did.after k)) (told.Heard mark) ∷ [])) g)
+  -- a refusal, by which nothing is done
+  pub hub_refused : (w v : AtHub) (e : Event) (why : NodeFault) (tape more : Option (List HubEntry))
+      → IsHubTape server w tape
+      → v ≡ w
+      → Refuses w.side e why
+      → Grows tape (entries_with (asked_of e) (told.Refused why ∷ [])) more
+      → IsHubTape server v more
+  hub_refused w v e why tape more t same r g = subst (λ u. IsHubTape server u more) (sym same) (record {
+    whose = t.whose;
+    log = WasRefused w.side e why ∷ t.log;
+    led = (r, refl, t.led);
+    gave = t.gave;
+    grows = grows_join (Some []) tape more _ (entries_with (asked_of e) (told.Refused why ∷ [])) t.grows g;
+  })
 
--- a frame of a peer as it is answered
-pub receive_noted : (shards : ℕ) (w v : AtHub) (frame : Frame) (done : Result Received (Failure HubFault))
-    (tape more : Option (List HubEntry))
-    → IsHubTape w tape
-    → Receives shards w frame done v
-    → HubNotes (event.Receive frame v.finished) (told_of_hub (λ received. of_received received) done) tape more
-    → IsHubTape v more
-receive_noted shards w v frame (Ok received) tape more t d n = receive_kept shards w v frame received tape more t d n
-receive_noted shards w v frame (Err (Refused why)) tape more t d n =
-    let same = d.answered.1 in
-    hub_refused d.seen v (ByHub (of_hub.Receive frame d.seen.finished)) (Hub why) tape more
-    (hub_looks shards w d.seen tape d.looks t) same
-    (record { asked = tt; cause = ap (option_map (λ fault. Hub fault)) d.answered.0 })
-    (subst (λ es. Grows tape es more)
-    (λ k. hub_entry (event.Receive frame (ap (λ (x : AtHub). x.finished) same k)) (told.Refused (Hub why)) ∷ []) n)
-receive_noted shards w v frame (Err OutOfMemory) tape more t d n =
-    hub_short d.seen v tape more (hub_looks shards w d.seen tape d.looks t) d.answered.1 n
+  -- want of memory, for which nothing is done
+  hub_short : (w v : AtHub) (tape more : Option (List HubEntry))
+      → IsHubTape server w tape
+      → v ≡ w
+      → more ≡ tape
+      → IsHubTape server v more
+  hub_short w v tape more t same unsaid =
+      subst (λ u. IsHubTape server u more) (sym same) (subst (IsHubTape server w) (sym unsaid) t)
+
+  -- an event as it is answered, which gives no job: a step, a refusal, or nothing for want of memory
+  pub hub_answered : {X F : Type 0} (w v : AtHub) (e : Event) (asked : HubEvent) (answer : X → Answer)
+      (said : X → HubTold) (fault_of : F → NodeFault) (cause : Option F) (done : Result X (Failure F))
+      (tape more : Option (List HubEntry))
+      → IsHubTape server w tape
+      → IsAsked w.side e
+      → side_refusal w.side e ≡ option_map fault_of cause
+      → asked_of e ≡ asked ∷ []
+      → ((x : X) → told_by (answer x) ≡ said x ∷ [])
+      → ((x : X) → job_in (answer x) ≡ [])
+      → IsAnswered cause (λ x. HubDoes w e (answer x) v) (v ≡ w) done
+      → HubNotes asked (told_in (λ fault. told.Refused (fault_of fault)) said done) tape more
+      → IsHubTape server v more
+  hub_answered w v e asked answer said fault_of cause (Ok x) tape more t may refusal asks tells quiet a n =
+      hub_does w v e (answer x) tape more t a.1 (quiet x)
+      (subst (λ es. Grows tape es more) (λ k. entries_with (sym asks k) (sym (tells x) k)) n)
+  hub_answered w v e asked answer said fault_of cause (Err (Refused why)) tape more t may refusal asks tells quiet a n =
+      hub_refused w v e (fault_of why) tape more t a.1
+      (record { asked = may; cause = refusal ∙ ap (option_map fault_of) a.0 })
+      (subst (λ es. Grows tape es more) (λ k. entries_with (sym asks k) (told.Refused (fault_of why) ∷ [])) n)
+  hub_answered w v e asked answer said fault_of cause (Err OutOfMemory) tape more t may refusal asks tells quiet a n =
+      hub_short w v tape more t a.1 n
+
+  -- a publish that is done
+  publish_kept : (shards : ℕ) (w v : AtHub) (conn word : ℕ) (publication : Pub) (issued : Issued)
+      (tape more : Option (List HubEntry))
+      → IsHubTape server w tape
+      → Publishes shards w (publication_by conn publication word) (Ok issued) v
+      → Grows tape
+      (hub_entry (event.Publish conn publication word v.finished) (told.Issued issued.turn issued.frames) ∷ []) more
+      → IsHubTape server v more
+  publish_kept shards w v conn word publication issued tape more t d g =
+      let p = publication_by conn publication word in
+      let did = d.answered.1 in
+      hub_more d.seen v _ _ tape more (hub_looks shards w d.seen tape d.looks t) did.issues.done did.issues.issued
+      (subst (λ es. Grows tape es more)
+      ((λ k.
+      hub_entry (event.Publish conn publication word (did.issues.finished k))
+      (told.Issued (did.turn k) (did.frames k)) ∷ []))
+      g)
+
+  -- a publish as it is answered
+  pub publish_noted : (shards : ℕ) (w v : AtHub) (conn word : ℕ) (publication : Pub)
+      (done : Result Issued (Failure HubFault)) (tape more : Option (List HubEntry))
+      → IsHubTape server w tape
+      → Publishes shards w (publication_by conn publication word) done v
+      → HubNotes (event.Publish conn publication word v.finished)
+      (told_of_hub (λ issued. told.Issued issued.turn issued.frames) done) tape more
+      → IsHubTape server v more
+  publish_noted shards w v conn word publication (Ok issued) tape more t d n =
+      publish_kept shards w v conn word publication issued tape more t d n
+  publish_noted shards w v conn word publication (Err (Refused why)) tape more t d n =
+      let p = publication_by conn publication word in
+      let same = d.answered.1 in
+      hub_refused d.seen v (ByHub (of_hub.Publish p d.seen.finished)) (Hub why) tape more
+      (hub_looks shards w d.seen tape d.looks t) same
+      (record { asked = tt; cause = ap (option_map (λ fault. Hub fault)) d.answered.0 })
+      (subst (λ es. Grows tape es more)
+      (λ k.
+      hub_entry (event.Publish conn publication word (ap (λ (x : AtHub). x.finished) same k))
+      (told.Refused (Hub why)) ∷ [])
+      n)
+  publish_noted shards w v conn word publication (Err OutOfMemory) tape more t d n =
+      hub_short d.seen v tape more (hub_looks shards w d.seen tape d.looks t) d.answered.1 n
+
+  -- a frame of a peer that is taken
+  receive_kept : (shards : ℕ) (w v : AtHub) (frame : Frame) (received : Received) (tape more : Option (List HubEntry))
+      → IsHubTape server w tape
+      → Receives shards w frame (Ok received) v
+      → Grows tape (hub_entry (event.Receive frame v.finished) (of_received received) ∷ []) more
+      → IsHubTape server v more
+  receive_kept shards w v frame received tape more t d g = go received d.answered.1 g
+    where
+      seen : IsHubTape server d.seen tape
+      seen = hub_looks shards w d.seen tape d.looks t
+
+      go : (received : Received)
+          → IsReceived d.seen frame received v
+          → Grows tape (hub_entry (event.Receive frame v.finished) (of_received received) ∷ []) more
+          → IsHubTape server v more
+      go (Routed turn) did g =
+          hub_more d.seen v _ _ tape more seen did.issues.done did.issues.issued
+          (subst (λ es. Grows tape es more)
+          ((λ k. hub_entry (event.Receive frame (did.issues.finished k)) (told.Routed (did.turn_is k)) ∷ [])) g)
+      go (Heard mark) did g =
+          hub_does d.seen v _ _ tape more seen did refl
+          (subst (λ es. Grows tape es more)
+          ((λ k. hub_entry (event.Receive frame (ap (λ (x : AtHub). x.finished) did.after k)) (told.Heard mark) ∷ []))
+          g)
+
+  -- a frame of a peer as it is answered
+  pub receive_noted : (shards : ℕ) (w v : AtHub) (frame : Frame) (done : Result Received (Failure HubFault))
+      (tape more : Option (List HubEntry))
+      → IsHubTape server w tape
+      → Receives shards w frame done v
+      → HubNotes (event.Receive frame v.finished) (told_of_hub (λ received. of_received received) done) tape more
+      → IsHubTape server v more
+  receive_noted shards w v frame (Ok received) tape more t d n = receive_kept shards w v frame received tape more t d n
+  receive_noted shards w v frame (Err (Refused why)) tape more t d n =
+      let same = d.answered.1 in
+      hub_refused d.seen v (ByHub (of_hub.Receive frame d.seen.finished)) (Hub why) tape more
+      (hub_looks shards w d.seen tape d.looks t) same
+      (record { asked = tt; cause = ap (option_map (λ fault. Hub fault)) d.answered.0 })
+      (subst (λ es. Grows tape es more)
+      (λ k. hub_entry (event.Receive frame (ap (λ (x : AtHub). x.finished) same k)) (told.Refused (Hub why)) ∷ []) n)
+  receive_noted shards w v frame (Err OutOfMemory) tape more t d n =
+      hub_short d.seen v tape more (hub_looks shards w d.seen tape d.looks t) d.answered.1 n
 
 -- deltas that the hub is handed, as that answers
 pub collects_so : (old : AtHub) (w : AtWork) (done : Result CollectResult (Failure HubFault)) (new : AtHub)

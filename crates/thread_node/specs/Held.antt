@@ -16,7 +16,6 @@ use Rattle.hub_core.specs.Chosen.{publication_by}
 use Rattle.hub_core.specs.Events as of_hub
 use Rattle.hub_core.specs.declared.answers.CollectResult.{CollectResult}
 use Rattle.hub_core.specs.declared.faults.HubFault.{HubFault}
-use Rattle.hub_core.specs.Steps.{hub_refusal}
 use Rattle.outbox.specs.Views.{Written, bytes_of_all}
 use Rattle.route_session.specs.Events as of_sessions
 use Rattle.route_session.specs.Steps.{session_refusal}

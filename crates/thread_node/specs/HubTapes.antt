@@ -5,6 +5,7 @@ use Rattle.hub_core.specs.Events as of_hub
 use Rattle.hub_core.specs.Steps.{hub_refusal}
 use Rattle.route_session.specs.Events as of_sessions
 use Rattle.route_session.specs.Steps.{session_refusal}
+use Rattle.subj.specs.Servers.{ServerIdentity}
 use Rattle.node_law.specs.declared.faults.NodeFault.{NodeFault}
 use Rattle.node_law.specs.declared.faults.NodeFault.TheVariants.{Hub, Session}
 use Rattle.node_parts.specs.Sides.{HubWithSessions, new_side, Event, ByHub, BySessions, Answer, OfHub, OfSessions, IsAsked, IsDone, Done, jobs_of}
@@ -127,9 +128,11 @@ hub_entries (WasRefused before event why ∷ earlier) =
 
 -- ---- a hub at work, and its tape
 
--- All that it did and refused since its start is on its tape, where that is kept; and what it gave
--- to the shards is what its answers say.
-pub record IsHubTape (w : AtHub) (tape : Option (List HubEntry)) : Type 0 where
+-- It is that of this server. All that it did and refused since its start is on its tape, where that
+-- is kept; and what it gave to the shards is what its answers say.
+pub record IsHubTape (server : ServerIdentity) (w : AtHub) (tape : Option (List HubEntry)) :
+    Type 0 where
+  pub whose : w.side.server ≡ server
   pub log : List Made
   pub led : Logs (new_side w.side.server) log w.side
   pub gave : w.issued ≡ jobs_of (steps_in log)

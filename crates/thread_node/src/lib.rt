@@ -15,7 +15,8 @@
 //!
 //! No call here tells a caller's pass, and none ends a server with a report: `thread_report` does, above the same
 //! locks. It takes what it needs from here: the place of an entry on its tape (`entries_kept`), what is told of an answer,
-//! and at the end what stood under the locks (`into_locked`, and of each its state and its tape, `into_parts`).
+//! and at the end what stood under the locks (`into_locked`), of each its state and its tape, and of the hub also which
+//! server it is of (`into_parts`).
 #![tactic(auto)]
 
 mod drains;

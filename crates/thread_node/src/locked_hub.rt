@@ -9,7 +9,6 @@ ghost use Rattle.hub_core.specs.Steps.{hub_refusal};
 ghost use Rattle.hub_core.specs.Telling.{drain_frames};
 ghost use Rattle.route_session.specs.Events.{Dial, Accept, OnInfo, OnConnect, Cut, Dialed, Accepted, KeptAfterInfo, Kept as WasKept, WasCut};
 ghost use Rattle.route_session.specs.Steps.{session_refusal};
-ghost use Rattle.subj.specs.Servers.{ServerIdentity};
 ghost use Rattle.node_parts.specs.Sides.{ByHub, BySessions, OfHub, OfSessions, new_side, seen_name};
 ghost use Rattle.node_threads.specs.AtHub.{Collects, Does, Publishes, Receives};
 ghost use Rattle.thread_node.specs.HubTapes.{IsHubTape};
@@ -31,15 +30,16 @@ use std::alloc::Global;
 use std::marker::Model;
 use std::sync::{Arc, Wait};
 use sub_table::SubTable;
-use subj::{ConnId, Failure, Pub};
+use subj::{ConnId, Failure, Pub, ServerIdentity};
 
-/// What stands under the lock of the hub: its state, with the race, and its tape. (Profile.)
+/// What stands under the lock of the hub: its state, with the race, its tape, and which server it is of. (Profile.)
 ///
 /// Seen as the state. Whoever holds the lock may make many calls, one after the other. Each step that they make and
 /// each refusal stands on the tape, where one is kept: the tape is all that the hub and the sessions ever did, and
 /// what they refused between.
 #[derive(Drop)]
 pub struct LockedHub<N: NodeName> {
+    server: ServerIdentity,
     state: HubState<N>,
     cells: Arc<Cells, Global>,
     tape: Tape<HubEntry>,
@@ -56,24 +56,25 @@ impl<N: NodeName> Model for LockedHub<N> {
 
     ghost view = { λ s. s.state };
 
-    ghost invariant = { λ s. (arc_value s.cells ≡ N.race) × IsHubTape s.state s.tape };
+    ghost invariant = { λ s. (arc_value s.cells ≡ N.race) × IsHubTape s.server s.state s.tape };
 }
 
 impl<N: NodeName> LockedHub<N> {
-    /// The state of a hub that has done nothing, with its race; `keep` says whether its steps are written down.
+    /// The state of the hub of this server, which has done nothing, with its race; `keep` says whether its steps are
+    /// written down.
     pub(crate) fn new(
         alloc: Global,
+        server: ServerIdentity,
         state: HubState<N>,
         cells: Arc<Cells, Global>,
         keep: bool,
     ) -> LockedHub<N>
         requires race { arc_value cells ≡ N.race }
-        requires fresh { (server : ServerIdentity)
-            × (state.side ≡ new_side server)
-            × (state.issued ≡ []) }
+        requires fresh { (state.side ≡ new_side server) × (state.issued ≡ []) }
         ensures { result ≡ state }
     {
         LockedHub {
+            server,
             state,
             cells,
             tape: Tape::new(alloc, keep),
@@ -259,18 +260,26 @@ impl<N: NodeName> LockedHub<N> {
         self.tape.len()
     }
 
-    /// What is left of it: the state, the race, and its tape.
-    pub fn into_parts(self) -> (HubState<N>, Arc<Cells, Global>, Tape<HubEntry>)
-        ensures state { result.0 ≡ self }
-        ensures race { arc_value result.1 ≡ N.race }
-        ensures tape { IsHubTape self result.2 }
+    /// What is left of it: its server, the state, the race, and its tape.
+    pub fn into_parts(
+        self,
+    ) -> (
+        ServerIdentity,
+        HubState<N>,
+        Arc<Cells, Global>,
+        Tape<HubEntry>,
+    )
+        ensures state { result.1 ≡ self }
+        ensures race { arc_value result.2 ≡ N.race }
+        ensures tape { IsHubTape result.0 self result.3 }
     {
         let LockedHub {
+            server,
             state,
             cells,
             tape,
             ..
         } = self;
-        (state, cells, tape)
+        (server, state, cells, tape)
     }
 }

@@ -140,8 +140,8 @@ fn locked_hub<N: NodeName>(
     requires some { 0 < length lines.items }
     requires lines { All (λ line. line.pushed ≡ []) lines.items }
 {
-    let state = HubState::new(alloc, server, &cells, seat, lines)?;
-    Ok(Mutex::new(LockedHub::new(alloc, state, cells, keep)))
+    let state = HubState::new(alloc, server.try_clone(alloc)?, &cells, seat, lines)?;
+    Ok(Mutex::new(LockedHub::new(alloc, server, state, cells, keep)))
 }
 
 /// What stands under the locks of a server: the hub, and the shards in their order.

@@ -7,7 +7,7 @@ use Rattle.node_threads.specs.Logs.{Made, Did, WasRefused, Logs}
 use Rattle.node_threads.specs.Steps.{Done}
 use Rattle.node_threads.specs.Tapes.{entries_of, entry_of, refused_entry, told_of}
 use Rattle.node_threads.specs.declared.shard_entries.ShardEntry.{ShardEntry}
-use Rattle.thread_report.specs.Answered.{asked, is_made, lists_at, lists_of, no_lists, state_after, state_behind}
+use Rattle.thread_report.specs.ShardAnswers.{asked, is_made, lists_at, lists_of, no_lists, state_after, state_behind}
 
 asked_of : (e : of_shard.Event) (a : of_shard.Answer) → asked (entry_of e a).event ≡ e
 asked_of of_shard.Attach a = refl

@@ -3,6 +3,7 @@ use Rattle.std.proofs.Common.{◌≡◌, ℕ, zero, suc, ◌+◌, ◌<◌, Bool,
 use Rattle.std.proofs.lemmas.List.{length-map}
 use Rattle.std.proofs.lemmas.List.Elements.{All-push}
 use mathlib.Core.Option.{some-ne-none, some-injective}
+use Rattle.subj.specs.Servers.{ServerIdentity}
 use Rattle.subj.specs.declared.jobs.Job.{Job}
 use Rattle.subj.specs.declared.limits.TheConstants.{MAX_COUNTER, MAX_QUEUE_NAMES, WINDOW}
 use Rattle.claim_cells.specs.declared.parts.ShardPart.{ShardPart}
@@ -140,8 +141,8 @@ module _ (race : RaceId) (issued : List Job) (kept : Bool) (seats : List ShardSh
         shard_at s there.0 there.1,
       )
 
-  module _ (hub : AtHub) (issued_is : hub.issued ≡ issued) (at_hub : IsAtHub race.shards hub)
-      (tape : Option (List HubEntry)) (t : IsHubTape hub tape) (count : length seats ≡ race.shards) (last : ℕ)
+  module _ {server : ServerIdentity} (hub : AtHub) (issued_is : hub.issued ≡ issued) (at_hub : IsAtHub race.shards hub)
+      (tape : Option (List HubEntry)) (t : IsHubTape server hub tape) (count : length seats ≡ race.shards) (last : ℕ)
       (turns claims : List ℕ) (over : IsClosed race hub.part seats last turns claims) where
     abbrev all : List ShardPart
     all = over.0

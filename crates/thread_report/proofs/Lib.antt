@@ -3,6 +3,8 @@ pub mod Placing
 pub mod Owing
 pub mod Replaying
 pub mod Answering
+pub mod HubReplaying
+pub mod HubAnswering
 pub mod Orders
 pub mod Telling
 pub mod Legal

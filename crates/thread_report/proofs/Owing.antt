@@ -2,18 +2,23 @@
 use Rattle.std.proofs.Common.{◌≡◌, ℕ, zero, suc, ◌+◌, ◌<◌, List, [], ◌∷◌, ◌++◌, length, map, take, get_or, refl, sym, ap, ◌∙◌, arith, append_assoc, append-nil}
 use Rattle.node_threads.specs.declared.shard_entries.ShardEntry.{ShardEntry}
 use Rattle.thread_node.specs.declared.hub_entries.HubEntry.{HubEntry}
+use Rattle.node_parts.specs.Sides.{HubWithSessions}
 use Rattle.shard_core.specs.Shards.{State, new_shard}
-use Rattle.thread_report.specs.Answered.{state_after, state_behind}
+use Rattle.thread_report.specs.HubAnswers as of_hub
+use Rattle.thread_report.specs.ShardAnswers.{state_after, state_behind}
 use Rattle.thread_report.specs.Owed.{call_of_hub, owed_by_hub, owed_by_shard, owed_by_shards, owed_one}
 
-pub owed_by_hub_more : (from n i : ℕ) (xs : List HubEntry) (d : HubEntry)
+pub owed_by_hub_more : (from n i : ℕ) (s : HubWithSessions) (xs : List HubEntry) (d : HubEntry)
     → i < length xs
     → n ≡ from + i
-    → owed_by_hub from (take (suc i) xs) ≡ owed_by_hub from (take i xs) ++ call_of_hub n (get_or xs i d) ∷ []
-owed_by_hub_more from n i [] d lt is = absurd (omega arith)
-owed_by_hub_more from n zero (x ∷ xs) d lt is = let e : n ≡ from = omega arith in ap (λ k. call_of_hub k x ∷ []) (sym e)
-owed_by_hub_more from n (suc i) (x ∷ xs) d lt is =
-    ap (λ l. call_of_hub from x ∷ l) (owed_by_hub_more (suc from) n i xs d (omega arith) (omega arith))
+    → owed_by_hub from s (take (suc i) xs)
+    ≡ owed_by_hub from s (take i xs) ++ call_of_hub n (of_hub.state_after s (take i xs)) (get_or xs i d) ∷ []
+owed_by_hub_more from n i s [] d lt is = absurd (omega arith)
+owed_by_hub_more from n zero s (x ∷ xs) d lt is =
+    let e : n ≡ from = omega arith in ap (λ k. call_of_hub k s x ∷ []) (sym e)
+owed_by_hub_more from n (suc i) s (x ∷ xs) d lt is =
+    ap (λ l. call_of_hub from s x ∷ l)
+    (owed_by_hub_more (suc from) n i (of_hub.state_behind s x) xs d (omega arith) (omega arith))
 
 pub owed_by_shard_more : (shard from n i : ℕ) (s : State) (xs : List ShardEntry) (d : ShardEntry)
     → i < length xs

@@ -9,7 +9,7 @@ use Rattle.shard_core.specs.ShardSteps.{claim_answer, shard_refusal}
 use Rattle.shard_core.specs.Shards.{State}
 use Rattle.shard_core.specs.declared.calls.Candidate.{Candidate}
 use Rattle.node_threads.specs.declared.shard_entries.ShardEntry.{ShardEntry}
-use Rattle.thread_report.specs.Answered.{AnswerLists, DoesAgain, lists_of, no_lists, state_after, state_behind}
+use Rattle.thread_report.specs.ShardAnswers.{ShardLists, DoesAgain, lists_of, no_lists, state_after, state_behind}
 
 none_lost : (s : State) (hand : Option Job) (chosen : Option Subscription)
     → lists_of (claim_answer s hand chosen false) ≡ no_lists
@@ -19,7 +19,7 @@ none_lost s (Some job) (Some sub) = refl
 
 -- a queue name that is not won
 pub claims_again : ClaimsAreWhole
-    → (old mid : Held) (index : ℕ) (found : Option Candidate) (lists : AnswerLists) (won : Bool)
+    → (old mid : Held) (index : ℕ) (found : Option Candidate) (lists : ShardLists) (won : Bool)
     → shard_refusal old.state (Claim index false) ≡ None
     → Chooses false old index found mid
     → lists ≡ no_lists

@@ -1,7 +1,8 @@
 -- what each step that was written down was asked, as an event of the server
 pub mod Events
--- what shards answered there, lists whole
-pub mod Answered
+-- what shards and the hub answered there, lists whole
+pub mod ShardAnswers
+pub mod HubAnswers
 -- what the passes of callers have to tell of it
 pub mod Owed
 -- which publications the hub gave to the shards

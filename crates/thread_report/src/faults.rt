@@ -1,6 +1,7 @@
 //! Why a server on threads gives no report.
 
 use std::alloc::AllocError;
+use subj::Failure;
 use thiserror::Error;
 
 /// Why a server gave no report.
@@ -23,5 +24,15 @@ pub enum Unfinished {
 impl From<AllocError> for Unfinished {
     fn from(_error: AllocError) -> Unfinished {
         Unfinished::OutOfMemory
+    }
+}
+
+/// A step that stands on a tape is done again at the end, and no server comes to one that is refused then.
+impl<F: Drop> From<Failure<F>> for Unfinished {
+    fn from(failure: Failure<F>) -> Unfinished {
+        match failure {
+            Failure::Refused(_fault) => Unfinished::Untold,
+            Failure::OutOfMemory => Unfinished::OutOfMemory,
+        }
     }
 }

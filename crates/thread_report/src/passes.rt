@@ -1,23 +1,24 @@
 //! What each caller asked, and what it was answered: what a pass keeps of each call. The calls themselves are
-//! `hub_calls` and `shard_calls`, and `shard_answers` is what shards answer with lists.
+//! `hub_calls` and `shard_calls`, and `answers` parts an answer into what the pass keeps and what the caller is told.
 
 ghost use Rattle.std.specs.Prelude.{◌≡◌, ◌<◌, ◌-◌, ℕ, [], true, Some, None, cond, length, slice_get, IfErr, IfOk, OnOk};
 ghost use Rattle.std.specs.Option.{option_copied, option_map};
 ghost use Rattle.node_law.specs.declared.events.NodeEvent.{NodeEvent};
-ghost use Rattle.thread_report.specs.Owed.{Gains, IsInOrder, by_server, by_shard, failed_by, lists_kept, plain};
+ghost use Rattle.thread_report.specs.Owed.{Gains, IsInOrder, by_server, by_shard, failed_by, hub_lists_kept, lists_kept, plain, plain_of_hub};
 ghost use Rattle.thread_report.specs.declared.passes.Call.{Call};
 ghost use Rattle.thread_report.specs.declared.passes.CallAnswer.{CallAnswer};
-ghost use Rattle.thread_report.specs.declared.passes.CallAnswer.TheVariants.{Hub};
 ghost use Rattle.node_threads.specs.declared.shard_entries.ShardTold.{ShardTold};
 ghost use Rattle.thread_node.specs.Told.{of_decision, told_of_shard};
 ghost use Rattle.thread_node.specs.Refusing.{AnswersAt, has_conn, has_shard};
 
+mod answers;
 mod hub_calls;
-mod shard_answers;
 mod shard_calls;
 
-use crate::lists::AnswerLists;
+use self::answers::{of_hub, of_shard};
+use crate::hub_lists::HubLists;
 use crate::order::are_rising;
+use crate::shard_lists::ShardLists;
 use node_law::{NodeEvent, NodeFault};
 use node_threads::{NodeName, ShardTold};
 use shard_core::ShardFault;
@@ -28,11 +29,11 @@ use sub_table::SubTable;
 use subj::{ConnId, Failure};
 use thread_node::{HubSection, HubTold, NO_SHARD, ShardSection, ThreadNode, answered_by_shard};
 
-/// What a call answered: one of the hub's, whose lists are told in numbers; or one of a shard's, with its lists.
+/// What a call answered, one of the hub's or one of a shard's, with its lists.
 #[derive(Drop)]
 pub enum CallAnswer {
-    Hub(HubTold),
-    Shard { told: ShardTold, lists: AnswerLists },
+    Hub { told: HubTold, lists: HubLists },
+    Shard { told: ShardTold, lists: ShardLists },
 }
 
 /// A call: under which lock it was made, the hub's (0) or that of the shard of this number; its place among what is
@@ -52,8 +53,9 @@ pub struct Call {
 /// it was: nothing was done then, and no lock of a shard was taken. It grows before the call is made: so where there
 /// is no memory for that, no call is made, whether it would have been refused or not.
 ///
-/// The lists of a shard's answer (closed subscriptions, entries that are taken) stay with the pass, which lends them
-/// ([`Pass::lists`]): what a caller sees of them is what is compared at the end.
+/// The lists of an answer stay with the pass, which lends them: of a shard the closed subscriptions and the entries that
+/// are taken ([`Pass::lists`]), of the hub the changes, the frames that are taken and the peers that are cut
+/// ([`Pass::hub_lists`]). What a caller sees of them is what is compared at the end.
 ///
 /// Seen as their list, and how many more it has room for.
 #[derive(Drop)]
@@ -90,7 +92,7 @@ impl<N: NodeName> Pass<N> {
         }
     }
 
-    /// What its copies are made by.
+    /// What its copies and its lists are made by.
     fn alloc(&self) -> Global {
         self.alloc
     }
@@ -106,18 +108,39 @@ impl<N: NodeName> Pass<N> {
         self.calls.reserve(1)
     }
 
+    /// The last answer: of the last call, where calls are written down.
+    fn last(&self) -> Option<&CallAnswer>
+        ensures { (last : Call)
+            → slice_get self.now.calls (length self.now.calls - 1) ≡ Some last
+            → option_copied result ≡ Some last.told }
+    {
+        match self.calls.as_slice().last() {
+            Some(call) => Some(&call.told),
+            None => self.unwritten.as_ref(),
+        }
+    }
+
     /// The lists of the last answer, if a shard gave it: of the last call, where calls are written down.
-    pub fn lists(&self) -> Option<&AnswerLists>
+    pub fn lists(&self) -> Option<&ShardLists>
         ensures { (last : Call)
             → slice_get self.now.calls (length self.now.calls - 1) ≡ Some last
             → option_copied result ≡ lists_kept last.told }
     {
-        match self.calls.as_slice().last() {
-            Some(call) => lists_in(&call.told),
-            None => match &self.unwritten {
-                Some(told) => lists_in(told),
-                None => None,
-            },
+        match self.last() {
+            Some(CallAnswer::Shard { lists, .. }) => Some(lists),
+            _ => None,
+        }
+    }
+
+    /// The same if the hub or the sessions gave it.
+    pub fn hub_lists(&self) -> Option<&HubLists>
+        ensures { (last : Call)
+            → slice_get self.now.calls (length self.now.calls - 1) ≡ Some last
+            → option_copied result ≡ hub_lists_kept last.told }
+    {
+        match self.last() {
+            Some(CallAnswer::Hub { lists, .. }) => Some(lists),
+            _ => None,
         }
     }
 
@@ -149,7 +172,7 @@ impl<N: NodeName> Pass<N> {
         });
     }
 
-    /// The same of a call under the hub's lock.
+    /// The same of a call under the hub's lock, whose answer has no lists.
     fn tell_hub(
         &mut self,
         keep: bool,
@@ -160,9 +183,11 @@ impl<N: NodeName> Pass<N> {
         requires room { keep ≡ true → 0 < self.old.room }
         ensures { (e : NodeEvent)
             → event ≡ cond keep (Some e) None
-            → Gains keep 0 e (option_map (λ t. Hub t) told) self.old.calls self.new.calls }
+            → Gains keep 0 e (option_map (λ t. plain_of_hub t) told) self.old.calls
+            self.new.calls }
     {
-        self.tell(keep, 0, place, event, answer_of_hub(told));
+        let told = of_hub(told, HubLists::none(self.alloc()));
+        self.tell(keep, 0, place, event, told);
     }
 
     /// The same of a call under the lock of the shard of this number, which came to this: as its server tells it.
@@ -183,7 +208,7 @@ impl<N: NodeName> Pass<N> {
             self.new.calls }
         ensures answers { AnswersAt true result }
     {
-        let told = plain_answer(self.alloc(), told);
+        let told = of_shard(told, ShardLists::none(self.alloc()));
         self.tell(keep, shard, place, event, told);
         answered_by_shard(done)
     }
@@ -304,39 +329,6 @@ impl<N: NodeName> Pass<N> {
     {
         let Pass { calls, .. } = self;
         calls
-    }
-}
-
-/// What the hub or the sessions told, as a call's answer.
-fn answer_of_hub(told: Option<HubTold>) -> Option<CallAnswer>
-    ensures { result ≡ option_map (λ t. Hub t) told }
-{
-    match told {
-        None => None,
-        Some(told) => Some(CallAnswer::Hub(told)),
-    }
-}
-
-/// The same of a shard, whose answer has no lists.
-fn plain_answer(alloc: Global, told: Option<ShardTold>) -> Option<CallAnswer>
-    ensures { result ≡ option_map (λ t. plain t) told }
-{
-    match told {
-        None => None,
-        Some(told) => Some(CallAnswer::Shard {
-            told,
-            lists: AnswerLists::none(alloc),
-        }),
-    }
-}
-
-/// The lists of an answer, if a shard gave it.
-fn lists_in(told: &CallAnswer) -> Option<&AnswerLists>
-    ensures { option_copied result ≡ lists_kept told.now }
-{
-    match told {
-        CallAnswer::Hub(_) => None,
-        CallAnswer::Shard { lists, .. } => Some(lists),
     }
 }
 

@@ -27,13 +27,15 @@ use node_threads::{HubState, LaneSender, NodeName, ShardEntry, Tape};
 use std::alloc::Global;
 use std::sync::{Arc, Mutex, Wait};
 use sub_table::SubTable;
-use subj::{Finished, Turn};
+use subj::{Finished, ServerIdentity, Turn};
 use thread_law::legal_runs_are_once;
 use thread_node::{HubEntry, LockedShard, ThreadNode};
 
 /// What a server has done.
 #[derive(Drop)]
 pub struct Report {
+    /// Which server it was.
+    pub server: ServerIdentity,
     /// The last turn issued; it is told where nothing was written down, too.
     pub issued: Turn,
     /// The publications that were issued, in order of turns: one a turn; nothing where nothing was written down.
@@ -183,6 +185,7 @@ fn reported<T: SubTable, N: NodeName, R: Wait>(
     ensures legal { IfOk result (λ report.
         (hub : HubRun)
         × (runs : List ShardRun)
+        × (hub.end.side.server ≡ report.server)
         × IsLegal N.race.shards hub runs
         × AreOnce hub runs
         × Tells hub runs report.issued report.finished
@@ -193,11 +196,12 @@ fn reported<T: SubTable, N: NodeName, R: Wait>(
 {
     let keep = node.keeps_tapes();
     let (hub, shards) = node.into_locked();
-    let (state, cells, tape) = hub.into_parts();
+    let (server, state, cells, tape) = hub.into_parts();
     let (hub, jobs) = written_by_hub(alloc, keep, tape)?;
     let (closed, worked) = close_all(rt, alloc, keep, state, cells, shards)?;
     legal_runs_are_once();
     Ok(Report {
+        server,
         issued: closed.issued,
         jobs,
         finished: closed.finished,
@@ -207,23 +211,26 @@ fn reported<T: SubTable, N: NodeName, R: Wait>(
     })
 }
 
-/// Compares what was written down of the hub with what was of the shards, and then with the passes.
+/// Compares what was written down of the hub of this server with what was of the shards, and then with the passes.
 fn compare<T: SubTable, N: NodeName>(
     alloc: Global,
     keep: bool,
     passes: Vec<Pass<N>>,
+    server: &ServerIdentity,
     hub: &[HubEntry],
     worked: &[Vec<ShardEntry>],
 ) -> Result<(), Unfinished>
     ensures handed { OnOk result
         (keep ≡ true → AreHanded hub.now (map (λ entries. entries.items) worked.now)) }
     ensures told { OnOk result
-        (keep ≡ true → AreTold passes.items hub.now (map (λ entries. entries.items) worked.now)) }
+        (keep ≡ true
+        → AreTold server.now passes.items hub.now
+        (map (λ entries. entries.items) worked.now)) }
 {
     if let Some(number) = torn_shard(alloc, keep, hub, worked)? {
         return Err(Unfinished::Torn(number));
     }
-    if !are_told::<T, N>(alloc, keep, passes, hub, worked)? {
+    if !are_told::<T, N>(alloc, keep, passes, server, hub, worked)? {
         return Err(Unfinished::Untold);
     }
     Ok(())
@@ -241,9 +248,9 @@ fn compare<T: SubTable, N: NodeName>(
 /// answered, each refusal too, and nothing else; and those of one caller under one lock stand in order. Each refusal
 /// has the cause that the hub or the shard had in the state in which it refused.
 ///
-/// The lists of a shard's answers are told whole, those of the hub's in numbers. The tapes have both in numbers: so a
-/// new shard does again what stands on the tape of each, which takes about the time of the steps, and as much memory
-/// as that shard. The server is given up for want of memory too. May wait.
+/// The lists of answers are told whole. The tapes have them in numbers: so a new hub and new shards do again what stands
+/// there, which takes about the time of the steps, and as much memory as the hub, and then as one shard after the other.
+/// The server is given up for want of memory too. May wait.
 pub fn finish<T: SubTable, N: NodeName, R: Wait>(
     rt: &R,
     alloc: Global,
@@ -256,13 +263,14 @@ pub fn finish<T: SubTable, N: NodeName, R: Wait>(
         → AreHanded report.hub.items (map (λ entries. entries.items) report.worked.items)) }
     ensures told { IfOk result (λ report.
         report.kept ≡ true
-        → AreTold passes.items report.hub.items
+        → AreTold report.server passes.items report.hub.items
         (map (λ entries. entries.items) report.worked.items)) }
     ensures once { IfOk result (λ report.
         ArePutOnce (all_placements (map (λ entries. entries.items) report.worked.items))) }
     ensures legal { IfOk result (λ report.
         (hub : HubRun)
         × (runs : List ShardRun)
+        × (hub.end.side.server ≡ report.server)
         × IsLegal N.race.shards hub runs
         × AreOnce hub runs
         × Tells hub runs report.issued report.finished
@@ -276,6 +284,7 @@ pub fn finish<T: SubTable, N: NodeName, R: Wait>(
         alloc,
         report.kept,
         passes,
+        &report.server,
         report.hub.as_slice(),
         report.worked.as_slice(),
     )?;

@@ -3,19 +3,22 @@
 ghost use Rattle.std.specs.Prelude.{◌≡◌, true, IfOk};
 ghost use Rattle.thread_report.specs.declared.passes.CallAnswer.TheVariants.{Hub, Shard};
 
-use crate::lists::AnswerLists;
+use crate::hub_lists::HubLists;
 use crate::passes::CallAnswer;
+use crate::shard_lists::ShardLists;
 use node_threads::ShardTold;
 use std::alloc::{AllocError, Global};
 use thread_node::HubTold;
 use value_equality::{is_same_connect, is_same_info};
 
-/// Whether it is what the hub or its sessions told.
-pub(crate) fn is_told_by_hub(told: &CallAnswer, written: &HubTold) -> bool
-    ensures { result ≡ true → told.now ≡ Hub written.now }
+/// Whether it is what the hub or its sessions told, with these lists.
+pub(crate) fn is_told_by_hub(told: &CallAnswer, written: &HubTold, lists: &HubLists) -> bool
+    ensures { result ≡ true → told.now ≡ Hub written.now lists.now }
 {
     match told {
-        CallAnswer::Hub(told) => is_same_of_hub(told, written),
+        CallAnswer::Hub { told, lists: given } => {
+            is_same_of_hub(told, written) && given.are_same(lists)
+        }
         CallAnswer::Shard { .. } => false,
     }
 }
@@ -25,12 +28,12 @@ pub(crate) fn is_told_by_shard(
     alloc: Global,
     told: &CallAnswer,
     written: &ShardTold,
-    lists: &AnswerLists,
+    lists: &ShardLists,
 ) -> Result<bool, AllocError>
     ensures { IfOk result (λ same. same ≡ true → told.now ≡ Shard written.now lists.now) }
 {
     match told {
-        CallAnswer::Hub(_) => Ok(false),
+        CallAnswer::Hub { .. } => Ok(false),
         CallAnswer::Shard { told, lists: given } => {
             if told == written {
                 given.are_same(alloc, lists)

@@ -73,7 +73,7 @@ fn member<N: NodeName, R: Abort + Wait>(
     conn
 }
 
-/// The same by a caller with a pass.
+/// The same by a caller with a pass, which sees the change that the peers are told.
 pub(crate) fn told_member<N: NodeName, R: Abort + Wait>(
     rt: &R,
     alloc: Global,
@@ -85,6 +85,7 @@ pub(crate) fn told_member<N: NodeName, R: Abort + Wait>(
     let (key, sid) = (work_of_foo(rt, alloc), sid(rt, alloc));
     assert!(rt; pass.subscribe(rt, node, shard, conn, key, sid).is_ok());
     assert!(rt; pass.collect(rt, node, shard).is_ok());
+    assert_eq!(rt; pass.hub_lists().expect(rt, "lists").changes().len(), 1);
     conn
 }
 

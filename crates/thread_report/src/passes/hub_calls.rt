@@ -1,7 +1,10 @@
 //! What callers ask of the hub and its sessions.
 
-ghost use Rattle.std.specs.Prelude.{length};
-ghost use Rattle.thread_report.specs.Owed.{Gains, by_hub, by_server, by_sessions};
+ghost use Rattle.std.specs.Prelude.{ℕ, List, length};
+ghost use Rattle.interest.specs.declared.changes.Change.{Change as ToldChange};
+ghost use Rattle.route_values.specs.Frames.{Frame};
+ghost use Rattle.thread_report.specs.HubAnswers.{collected_lists, cut_lists, frame_lists};
+ghost use Rattle.thread_report.specs.Owed.{Gains, GainsList, by_hub, by_sessions, failed_by, failed_by_hub};
 ghost use Rattle.thread_report.specs.declared.passes.CallAnswer.TheVariants.{Hub};
 ghost use Rattle.node_law.specs.declared.events.NodeEvent.TheVariants.{Own, Receive, OnInfo, OnConnect};
 ghost use Rattle.node_law.specs.declared.events.OwnEvent.TheVariants as own;
@@ -10,8 +13,10 @@ ghost use Rattle.thread_node.specs.Refusing.{AnswersAt, has_shard};
 ghost use Rattle.thread_node.specs.declared.hub_entries.HubTold.TheVariants as hub_told;
 
 use super::Pass;
+use super::answers::{of_hub, part_collect, part_list};
 use crate::asking::{event_if, publish_event, receive_event};
-use hub_core::{CollectResult, HubFault};
+use crate::hub_lists::HubLists;
+use hub_core::HubFault;
 use node_law::{NodeEvent, NodeFault, OwnEvent};
 use node_parts::{Issued, Received};
 use node_threads::NodeName;
@@ -212,39 +217,43 @@ impl<N: NodeName> Pass<N> {
         }
     }
 
-    /// [`ThreadNode::take_frames`]. May wait.
+    /// [`ThreadNode::take_frames`]; [`Pass::hub_lists`] has the frames. May wait.
     pub fn take_frames<T: SubTable, R: Wait>(
         &mut self,
         rt: &R,
         node: &ThreadNode<T, N>,
         peer: usize,
         count: usize,
-    ) -> Result<Vec<Numbered>, Failure<HubFault>>
-        ensures told { Gains N.keep 0 (Own (own.TakeFrames peer count))
-            (by_hub (λ frames. hub_told.Taken (length frames.items)) result) self.old.calls
-            self.new.calls }
+    ) -> Result<(), Failure<HubFault>>
+        ensures told { GainsList (List Frame) N.keep 0 (Own (own.TakeFrames peer count))
+            failed_by_hub
+            (λ _ frames. Hub (hub_told.Taken (length frames)) (frame_lists frames)) result
+            self.old.calls self.new.calls }
     {
         let keep = node.keeps_tapes();
         let (mut hub, place) = self.enter_hub(rt, node)?;
         let done = hub.take_frames(peer, count);
         drop(hub);
         let event = event_if(keep, NodeEvent::Own(OwnEvent::TakeFrames { peer, count }));
-        self.tell_hub(keep, place, event, told_frames(&done));
+        let told = told_frames(&done);
+        let (frames, done) = part_list(self.alloc, done);
+        let lists = HubLists::of_frames(self.alloc, frames);
+        self.tell(keep, 0, place, event, of_hub(told, lists));
         done
     }
 
-    /// [`ThreadNode::collect`]; what the hub did is told. May wait.
+    /// [`ThreadNode::collect`]; [`Pass::hub_lists`] has what the peers are told of it. May wait.
     pub fn collect<T: SubTable, R: Wait>(
         &mut self,
         rt: &R,
         node: &ThreadNode<T, N>,
         shard: u64,
-    ) -> Result<CollectResult, Failure<NodeFault>>
-        ensures told { Gains N.keep 0 (Own (own.Collect shard))
-            (by_server
-            (λ told. Hub (hub_told.Collected (length told.changes.items) (length told.cut.items)))
-            result)
-            self.old.calls self.new.calls }
+    ) -> Result<(), Failure<NodeFault>>
+        ensures told { GainsList (List ToldChange × List ℕ) N.keep 0 (Own (own.Collect shard))
+            failed_by
+            (λ _ told.
+            Hub (hub_told.Collected (length told.0) (length told.1)) (collected_lists told))
+            result self.old.calls self.new.calls }
         ensures answers { AnswersAt (has_shard N.race shard) result }
     {
         let keep = node.keeps_tapes();
@@ -255,28 +264,32 @@ impl<N: NodeName> Pass<N> {
         drop(of_shard);
         drop(hub);
         let event = event_if(keep, NodeEvent::Own(OwnEvent::Collect { shard }));
-        self.tell_hub(keep, place, event, told_collected(&done));
+        let told = told_collected(&done);
+        let (collected, done) = part_collect(self.alloc, done);
+        let lists = HubLists::of_collect(self.alloc, collected);
+        self.tell(keep, 0, place, event, of_hub(told, lists));
         answered_by_hub(done)
     }
 
-    /// [`ThreadNode::drain_hub`]. May wait.
+    /// [`ThreadNode::drain_hub`]; [`Pass::hub_lists`] has the peers that are cut. May wait.
     pub fn drain_hub<T: SubTable, R: Wait>(
         &mut self,
         rt: &R,
         node: &ThreadNode<T, N>,
-    ) -> Result<Vec<usize>, Failure<HubFault>>
-        ensures told { Gains N.keep 0 (Own own.Drain)
-            (by_hub (λ cut. hub_told.Collected 1 (length cut.items)) result) self.old.calls
-            self.new.calls }
+    ) -> Result<(), Failure<HubFault>>
+        ensures told { GainsList (List ℕ) N.keep 0 (Own own.Drain) failed_by_hub
+            (λ _ cut. Hub (hub_told.Collected 1 (length cut)) (cut_lists cut)) result
+            self.old.calls self.new.calls }
     {
         let keep = node.keeps_tapes();
-        self.grow(keep)?;
-        let mut hub = node.hub(rt);
-        let place = hub.entries_kept();
+        let (mut hub, place) = self.enter_hub(rt, node)?;
         let done = hub.drain();
         drop(hub);
         let event = event_if(keep, NodeEvent::Own(OwnEvent::Drain));
-        self.tell_hub(keep, place, event, told_hub_drained(&done));
+        let told = told_hub_drained(&done);
+        let (cut, done) = part_list(self.alloc, done);
+        let lists = HubLists::of_cut(self.alloc, cut);
+        self.tell(keep, 0, place, event, of_hub(told, lists));
         done
     }
 }

@@ -1,10 +1,10 @@
 //! What callers ask of a shard.
 
-ghost use Rattle.std.specs.Prelude.{◌≡◌, IfOk, Some, None, cond, length};
+ghost use Rattle.std.specs.Prelude.{◌≡◌, IfOk, List, Some, None, cond, length};
 ghost use Rattle.outbox.specs.Views.{Written};
 ghost use Rattle.subj.specs.declared.identities.SubId.{SubId as ClosedSub};
-ghost use Rattle.thread_report.specs.Answered.{closed_lists, taken_lists};
-ghost use Rattle.thread_report.specs.Owed.{Gains, GainsList, by_server, plain};
+ghost use Rattle.thread_report.specs.ShardAnswers.{closed_lists, taken_lists};
+ghost use Rattle.thread_report.specs.Owed.{Gains, GainsList, by_server, failed_by, plain};
 ghost use Rattle.thread_report.specs.declared.passes.CallAnswer.TheVariants.{Shard};
 ghost use Rattle.shard_core.specs.Answers.{answer_of};
 ghost use Rattle.node_law.specs.declared.events.ConnEvent.TheVariants as of_conn;
@@ -16,8 +16,9 @@ ghost use Rattle.node_threads.specs.declared.shard_entries.ShardTold.TheVariants
 ghost use Rattle.thread_node.specs.Refusing.{AnswersAt, has_conn, has_shard};
 
 use super::Pass;
-use super::shard_answers::{detached, replied, taken, was_shut};
+use super::answers::{of_shard, part_list, part_reply};
 use crate::asking::{conn_event_if, event_if, reply_event, subscribe_event, unsubscribe_event};
+use crate::shard_lists::ShardLists;
 use client_frames::{ErrText, ReplyFrame};
 use node_law::{ConnEvent, NodeEvent, NodeFault, OwnEvent, ShardWork};
 use node_threads::NodeName;
@@ -27,8 +28,8 @@ use std::sync::Wait;
 use sub_table::SubTable;
 use subj::{ConnId, Failure, Key, Sid, SubId, Turn};
 use thread_node::{
-    LockedShard, ThreadNode, told_attached, told_drained, told_dropped, told_headers,
-    told_subscribed, told_unsubscribed,
+    LockedShard, ThreadNode, told_attached, told_detached, told_drained, told_dropped,
+    told_headers, told_replied, told_shut, told_subscribed, told_taken, told_unsubscribed,
 };
 
 /// Subscribes under the lock of the shard; what was asked comes along, where calls are written down.
@@ -155,8 +156,8 @@ impl<N: NodeName> Pass<N> {
         conn: ConnId,
         frame: &ReplyFrame,
     ) -> Result<bool, Failure<NodeFault>>
-        ensures told { GainsList ClosedSub N.keep shard
-            (Own (own.OfConn conn (of_conn.Reply frame.now)))
+        ensures told { GainsList (List ClosedSub) N.keep shard
+            (Own (own.OfConn conn (of_conn.Reply frame.now))) failed_by
             (λ shut ended. Shard (shard_told.Replied shut (length ended)) (closed_lists ended))
             result self.old.calls self.new.calls }
         ensures answers { AnswersAt (has_conn N.race shard conn) result }
@@ -164,9 +165,12 @@ impl<N: NodeName> Pass<N> {
         let keep = node.keeps_tapes();
         let (mut locked, place) = self.enter_conn(rt, node, shard, conn)?;
         let event = reply_event(keep, conn, frame)?;
-        let (told, done) = replied(self.alloc, locked.reply(conn, frame));
+        let done = locked.reply(conn, frame);
         drop(locked);
-        self.tell_lists(keep, shard, place, event, told, done)
+        let told = told_replied(&done);
+        let (ended, done) = part_reply(self.alloc, done);
+        let lists = ShardLists::of_closed(self.alloc, ended);
+        self.tell_lists(keep, shard, place, event, of_shard(told, lists), done)
     }
 
     /// [`ThreadNode::set_headers`]. May wait.
@@ -199,17 +203,21 @@ impl<N: NodeName> Pass<N> {
         conn: ConnId,
         text: ErrText,
     ) -> Result<(), Failure<NodeFault>>
-        ensures told { GainsList ClosedSub N.keep shard (Own (own.OfConn conn (of_conn.Shut text)))
+        ensures told { GainsList (List ClosedSub) N.keep shard
+            (Own (own.OfConn conn (of_conn.Shut text))) failed_by
             (λ _ ended. Shard (shard_told.WasShut (length ended)) (closed_lists ended)) result
             self.old.calls self.new.calls }
         ensures answers { AnswersAt (has_conn N.race shard conn) result }
     {
         let keep = node.keeps_tapes();
         let (mut locked, place) = self.enter_conn(rt, node, shard, conn)?;
-        let (told, done) = was_shut(self.alloc, locked.shut(conn, text));
+        let done = locked.shut(conn, text);
         drop(locked);
         let event = conn_event_if(keep, conn, ConnEvent::Shut { text });
-        self.tell_lists(keep, shard, place, event, told, done)
+        let told = told_shut(&done);
+        let (ended, done) = part_list(self.alloc, done);
+        let lists = ShardLists::of_closed(self.alloc, ended);
+        self.tell_lists(keep, shard, place, event, of_shard(told, lists), done)
     }
 
     /// [`ThreadNode::detach`]; [`Pass::lists`] has the subscriptions that closed. May wait.
@@ -220,17 +228,21 @@ impl<N: NodeName> Pass<N> {
         shard: u64,
         conn: ConnId,
     ) -> Result<(), Failure<NodeFault>>
-        ensures told { GainsList ClosedSub N.keep shard (Own (own.OfConn conn of_conn.Detach))
+        ensures told { GainsList (List ClosedSub) N.keep shard
+            (Own (own.OfConn conn of_conn.Detach)) failed_by
             (λ _ ended. Shard (shard_told.Detached (length ended)) (closed_lists ended)) result
             self.old.calls self.new.calls }
         ensures answers { AnswersAt (has_conn N.race shard conn) result }
     {
         let keep = node.keeps_tapes();
         let (mut locked, place) = self.enter_conn(rt, node, shard, conn)?;
-        let (told, done) = detached(self.alloc, locked.detach(conn));
+        let done = locked.detach(conn);
         drop(locked);
         let event = conn_event_if(keep, conn, ConnEvent::Detach);
-        self.tell_lists(keep, shard, place, event, told, done)
+        let told = told_detached(&done);
+        let (ended, done) = part_list(self.alloc, done);
+        let lists = ShardLists::of_closed(self.alloc, ended);
+        self.tell_lists(keep, shard, place, event, of_shard(told, lists), done)
     }
 
     /// [`ThreadNode::take`]; [`Pass::lists`] has the entries. May wait.
@@ -242,17 +254,21 @@ impl<N: NodeName> Pass<N> {
         conn: ConnId,
         count: usize,
     ) -> Result<(), Failure<NodeFault>>
-        ensures told { GainsList Written N.keep shard (Own (own.OfConn conn (of_conn.Take count)))
+        ensures told { GainsList (List Written) N.keep shard
+            (Own (own.OfConn conn (of_conn.Take count))) failed_by
             (λ _ entries. Shard (shard_told.Taken (length entries)) (taken_lists entries)) result
             self.old.calls self.new.calls }
         ensures answers { AnswersAt (has_conn N.race shard conn) result }
     {
         let keep = node.keeps_tapes();
         let (mut locked, place) = self.enter_conn(rt, node, shard, conn)?;
-        let (told, done) = taken(self.alloc, locked.take(conn, count));
+        let done = locked.take(conn, count);
         drop(locked);
         let event = conn_event_if(keep, conn, ConnEvent::Take { count });
-        self.tell_lists(keep, shard, place, event, told, done)
+        let told = told_taken(&done);
+        let (entries, done) = part_list(self.alloc, done);
+        let lists = ShardLists::of_taken(self.alloc, entries);
+        self.tell_lists(keep, shard, place, event, of_shard(told, lists), done)
     }
 
     /// [`ThreadNode::drop_job`]. May wait.

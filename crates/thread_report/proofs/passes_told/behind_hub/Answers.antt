@@ -1,5 +1,8 @@
 use Rattle.std.proofs.Common.{◌<◌, [], ◌∷◌, ◌++◌, length, get_or, take, add-one, arith, sym, ap, ◌∙◌, append_assoc}
+use Rattle.node_parts.specs.Sides.{new_side}
+use Rattle.thread_report.specs.HubAnswers.{state_after, state_behind}
 use Rattle.thread_report.specs.Owed.{call_of_hub, owed_by_hub}
+use Rattle.thread_report.proofs.HubReplaying.{state_after_more}
 use Rattle.thread_report.proofs.Owing.{owed_by_hub_more}
 use Rattle.thread_report.proofs.passes_told.behind_hub.Goals as goal
 
@@ -7,15 +10,18 @@ pub loop-place-preserved : goal.loop-place-preserved
 loop-place-preserved c =
     let l = c.loop-place in
     let n = l.place in
+    let start = new_side c.args.server.now in
     let tape = c.args.tape.now in
     let d = c.index-tape-place.result in
-    let others = c.in_ok-call.others.now in
+    let rest = c.in_ok-rest.rest.now in
     let lt : n < length tape = omega arith in
-    let before = owed_by_hub 0 (take n tape) in
-    let here = call_of_hub n (get_or tape n d) ∷ [] in
-    rw add-one (l.invariant
-    ∙ ap (λ w. before ++ w)
-    (c.in_ok-call.ensures.cases.0
-    ∙ ap (λ x. x ∷ others) (c.is_by_hub.ensures c.if-not-is_by_hub.false ∙ ap (call_of_hub n) c.index-tape-place.is))
-    ∙ sym (append_assoc before here others)
-    ∙ ap (λ w. w ++ others) (sym (owed_by_hub_more 0 n n tape d lt (omega arith))))
+    let before = owed_by_hub 0 start (take n tape) in
+    let state = state_after start (take n tape) in
+    let here = call_of_hub n state (get_or tape n d) ∷ [] in
+    let told = c.in_ok-rest.ensures.told
+    ∙ (λ k. call_of_hub n (l.invariant.1 k) (c.index-tape-place.is k) ∷ rest) in (
+      rw add-one (l.invariant.0 ∙ ap (λ w. before ++ w) told ∙ sym (append_assoc before here rest)
+          ∙ ap (λ w. w ++ rest) (sym (owed_by_hub_more 0 n n start tape d lt (omega arith)))),
+      rw add-one (c.in_ok-rest.ensures.state ∙ (λ k. state_behind (l.invariant.1 k) (c.index-tape-place.is k))
+          ∙ sym (state_after_more n start tape d lt)),
+    )

@@ -1,6 +1,6 @@
 use Rattle.std.proofs.Common.{◌<◌, ◌++◌, length, get_or, take, add-one, arith, sym, ap, ◌∙◌, append_assoc}
 use Rattle.shard_core.specs.Shards.{new_shard}
-use Rattle.thread_report.specs.Answered.{state_after, state_behind}
+use Rattle.thread_report.specs.ShardAnswers.{state_after, state_behind}
 use Rattle.thread_report.specs.Owed.{owed_by_shard, owed_one}
 use Rattle.thread_report.proofs.Owing.{owed_by_shard_more}
 use Rattle.thread_report.proofs.Replaying.{state_after_more}

@@ -1,6 +1,6 @@
 use Rattle.std.proofs.Common.{◌≡◌, ◌++◌, take}
 use Rattle.shard_core.specs.Shards.{new_shard}
-use Rattle.thread_report.specs.Answered.{state_after}
+use Rattle.thread_report.specs.ShardAnswers.{state_after}
 use Rattle.thread_report.specs.Owed.{owed_by_shard}
 use Rattle.thread_report.proofs.passes_told.behind_shard.Given as goal
 

@@ -15,14 +15,15 @@ returns-clause-handed g c = λ on.
 pub returns-clause-told : goal.returns-clause-told
 returns-clause-told g c = λ on.
     let passes = c.args.passes.items in
+    let server = c.in_ok-report.report.server in
     let told = c.in_ok-compare.ensures.told on in
-    subst (λ hub. AreTold passes hub (map (λ entries. entries.items) c.in_ok-report.report.worked.items))
+    subst (λ hub. AreTold server passes hub (map (λ entries. entries.items) c.in_ok-report.report.worked.items))
     c.as_slice.ensures.value
-    (subst (λ worked. AreTold passes c.as_slice.result.now (map (λ entries. entries.items) worked))
+    (subst (λ worked. AreTold server passes c.as_slice.result.now (map (λ entries. entries.items) worked))
     c.as_slice-2.ensures.value told)
 
 pub returns-clause-once : goal.returns-clause-once
 returns-clause-once g c =
     let report = c.in_ok-report.report in
     let legal = c.in_ok-report.ensures.legal in
-    are_once report.kept legal.1 (map (λ entries. entries.items) report.worked.items) legal.7 legal.3.puts
+    are_once report.kept legal.1 (map (λ entries. entries.items) report.worked.items) legal.8 legal.4.puts

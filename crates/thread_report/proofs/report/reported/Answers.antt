@@ -10,7 +10,9 @@ use Rattle.thread_report.proofs.report.reported.Goals as goal
 
 pub returns-clause-legal : goal.returns-clause-legal
 returns-clause-legal g c =
-    let w = c.into_parts-state.result.0 in
+    let ended_hub = c.into_parts-server in
+    let server = ended_hub.result.0 in
+    let w = ended_hub.result.1 in
     let race = g.N.NodeName.race in
     let tapes = map (λ entries. entries.items) c.in_ok-closed.worked.items in
     let kept = c.keeps_tapes-keep.result in
@@ -20,9 +22,9 @@ returns-clause-legal g c =
     let closed = over.2 in
     let ended = over.3 in
     let told = c.in_ok-closed.closed in
-    let tape = c.into_parts-state.result.2 in
+    let tape = ended_hub.result.3 in
     let wrote =
-    subst (λ (v : AtHub). IsHubTape v tape) (sym c.into_parts-state.ensures.state) c.into_parts-state.ensures.tape in
+    subst (λ (v : AtHub). IsHubTape server v tape) (sym ended_hub.ensures.state) ended_hub.ensures.tape in
     let at_hub = c.in_ok-closed.ensures.hub in
     let run = hub_run race w.issued kept seats tapes closed w refl at_hub tape wrote count told.issued told.finished
     told.cells.items ended in
@@ -34,6 +36,7 @@ returns-clause-legal g c =
     told.finished told.cells.items ended in (
       run,
       closed.0,
+      wrote.whose,
       run_is_legal,
       c.legal_runs_are_once.ensures race.shards run closed.0 run_is_legal,
       tells race w.issued kept seats tapes closed w refl at_hub tape wrote count told.issued told.finished

@@ -4,4 +4,4 @@ use Rattle.thread_node.proofs.locked_hub.LockedHub.new.Goals as goal
 pub invariant_of-result : goal.invariant_of-result
 invariant_of-result g c =
     let f = c.requires.fresh in
-    (c.requires.race, hub_tape_starts c.args.state f.0 c.args.keep c.new.result f.1 f.2 c.new.ensures)
+    (c.requires.race, hub_tape_starts c.args.state c.args.server c.args.keep c.new.result f.0 f.1 c.new.ensures)

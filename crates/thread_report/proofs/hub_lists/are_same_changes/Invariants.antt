@@ -1,5 +1,5 @@
 use Rattle.std.proofs.Common.{◌≡◌, take, length}
-use Rattle.thread_report.proofs.lists.are_same_subs.Given as goal
+use Rattle.thread_report.proofs.hub_lists.are_same_changes.Given as goal
 
 abbrev pub invariant-loop-place : goal.invariant-loop-place
 invariant-loop-place l = (take l.place l.a ≡ take l.place l.b) × (length l.a ≡ length l.b)

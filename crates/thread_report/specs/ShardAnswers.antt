@@ -18,20 +18,20 @@ use Rattle.node_threads.specs.declared.shard_entries.ShardTold.TheVariants as to
 -- ---- the lists of an answer: the subscriptions that closed with their connection, and the entries
 -- that were taken
 
-pub record AnswerLists : Type 0 where
+pub record ShardLists : Type 0 where
   pub closed : List SubId
   pub taken : List Written
 
-abbrev pub no_lists : AnswerLists
+abbrev pub no_lists : ShardLists
 no_lists = record { closed = []; taken = [] }
 
-abbrev pub closed_lists : List SubId → AnswerLists
+abbrev pub closed_lists : List SubId → ShardLists
 closed_lists closed = record { closed = closed; taken = [] }
 
-abbrev pub taken_lists : List Written → AnswerLists
+abbrev pub taken_lists : List Written → ShardLists
 taken_lists taken = record { closed = []; taken = taken }
 
-abbrev pub lists_of : of_shard.Answer → AnswerLists
+abbrev pub lists_of : of_shard.Answer → ShardLists
 lists_of (of_shard.Attached conn) = no_lists
 lists_of (of_shard.Opened sub) = no_lists
 lists_of of_shard.AlreadyOpen = no_lists
@@ -85,7 +85,7 @@ is_made told.Drained = true
 is_made (told.Refused why) = false
 
 -- the lists that were answered in this state
-abbrev pub lists_at : State → ShardEntry → AnswerLists
+abbrev pub lists_at : State → ShardEntry → ShardLists
 lists_at s entry =
     cond (is_made entry.told) (lists_of (shard_answer s (asked entry.event))) no_lists
 
@@ -99,7 +99,7 @@ state_after s [] = s
 state_after s (entry ∷ tape) = state_after (state_behind s entry) tape
 
 -- a shard that is asked this again stands so behind it, and has answered with these lists
-pub record DoesAgain (old : State) (event : of_shard.Event) (lists : AnswerLists) (new : State) :
+pub record DoesAgain (old : State) (event : of_shard.Event) (lists : ShardLists) (new : State) :
     Type 0 where
   pub lists_are : lists ≡ lists_of (shard_answer old event)
   pub after : new ≡ shard_after old event

@@ -1,5 +1,5 @@
 use Rattle.thread_report.proofs.Replaying.{claims_again}
-use Rattle.thread_report.proofs.replay.claim.Goals as goal
+use Rattle.thread_report.proofs.shard_replay.claim.Goals as goal
 
 pub returns-then-not-won : goal.returns-then-not-won
 returns-then-not-won g c =

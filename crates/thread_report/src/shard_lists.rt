@@ -1,7 +1,7 @@
 //! The lists of a shard's answer, which a pass keeps and lends.
 
 ghost use Rattle.std.specs.Prelude.{◌≡◌, true, IfOk};
-ghost use Rattle.thread_report.specs.Answered.{closed_lists, no_lists, taken_lists};
+ghost use Rattle.thread_report.specs.ShardAnswers.{closed_lists, no_lists, taken_lists};
 
 use outbox::{Entry, Mode, Tag};
 use std::alloc::{AllocError, Global};
@@ -13,15 +13,15 @@ use subj::{NodeId, PubId, SubId};
 ///
 /// Seen as both lists.
 #[derive(Drop)]
-pub struct AnswerLists {
+pub struct ShardLists {
     closed: Vec<SubId>,
     taken: Vec<Entry>,
 }
 
-impl Model for AnswerLists {
-    ghost use Rattle.thread_report.specs.Answered.{AnswerLists};
+impl Model for ShardLists {
+    ghost use Rattle.thread_report.specs.ShardAnswers.{ShardLists};
 
-    ghost Value = { AnswerLists };
+    ghost Value = { ShardLists };
 
     ghost view = { λ s. record {
       closed = s.closed.items;
@@ -29,32 +29,32 @@ impl Model for AnswerLists {
     } };
 }
 
-impl AnswerLists {
+impl ShardLists {
     /// Those of an answer without lists. Takes no memory.
-    pub(crate) fn none(alloc: Global) -> AnswerLists
+    pub(crate) fn none(alloc: Global) -> ShardLists
         ensures { result ≡ no_lists }
     {
-        AnswerLists {
+        ShardLists {
             closed: Vec::new(alloc),
             taken: Vec::new(alloc),
         }
     }
 
     /// Those of an answer that tells which subscriptions closed. Takes no memory.
-    pub(crate) fn of_closed(alloc: Global, closed: Vec<SubId>) -> AnswerLists
+    pub(crate) fn of_closed(alloc: Global, closed: Vec<SubId>) -> ShardLists
         ensures { result ≡ closed_lists closed.items }
     {
-        AnswerLists {
+        ShardLists {
             closed,
             taken: Vec::new(alloc),
         }
     }
 
     /// Those of an answer that gives entries. Takes no memory.
-    pub(crate) fn of_taken(alloc: Global, taken: Vec<Entry>) -> AnswerLists
+    pub(crate) fn of_taken(alloc: Global, taken: Vec<Entry>) -> ShardLists
         ensures { result ≡ taken_lists taken.items }
     {
-        AnswerLists {
+        ShardLists {
             closed: Vec::new(alloc),
             taken,
         }
@@ -75,7 +75,7 @@ impl AnswerLists {
     }
 
     /// Whether the others are the same.
-    pub(crate) fn are_same(&self, alloc: Global, others: &AnswerLists) -> Result<bool, AllocError>
+    pub(crate) fn are_same(&self, alloc: Global, others: &ShardLists) -> Result<bool, AllocError>
         ensures { IfOk result (λ same. same ≡ true → self.now ≡ others.now) }
     {
         if !are_same_subs(self.closed(), others.closed()) {

@@ -3,33 +3,23 @@
 
 ghost use Rattle.std.specs.Prelude.{◌≡◌, None, Some, IfOk};
 ghost use Rattle.shard_core.specs.ShardEvents.{Attach, Begin, Claim, Collect, Detach, Drain, DropJob, End, Reply, SetHeaders, Shut, Subscribe, Take, Unsubscribe};
-ghost use Rattle.thread_report.specs.Answered.{DoesAgain, asked, is_made as was_made, lists_at, state_behind};
+ghost use Rattle.thread_report.specs.ShardAnswers.{DoesAgain, asked, is_made as was_made, lists_at, state_behind};
 
 use crate::faults::Unfinished;
-use crate::lists::AnswerLists;
+use crate::shard_lists::ShardLists;
 use client_frames::{ErrText, ReplyFrame};
 use node_threads::{ShardEntry, ShardEvent, ShardTold};
-use shard_core::{Closed, Shard, ShardFault, claims_are_whole};
+use shard_core::{Closed, Shard, claims_are_whole};
 use std::alloc::Global;
 use sub_table::SubTable;
-use subj::{ConnId, Failure, Job, Key, Sid};
-
-/// Why a tape is not done again: what stands there was refused now, which no server comes to, or there was no memory.
-fn unfinished(failure: Failure<ShardFault>) -> Unfinished {
-    match failure {
-        Failure::Refused(_fault) => Unfinished::Untold,
-        Failure::OutOfMemory => Unfinished::OutOfMemory,
-    }
-}
+use subj::{ConnId, Job, Key, Sid};
 
 /// A connection that is made.
-fn attach<T: SubTable>(alloc: Global, shard: &mut Shard<T>) -> Result<AnswerLists, Unfinished>
+fn attach<T: SubTable>(alloc: Global, shard: &mut Shard<T>) -> Result<ShardLists, Unfinished>
     ensures { IfOk result (λ lists. DoesAgain shard.old.state Attach lists shard.new.state) }
 {
-    match shard.attach() {
-        Ok(_conn) => Ok(AnswerLists::none(alloc)),
-        Err(failure) => Err(unfinished(failure)),
-    }
+    let _conn = shard.attach()?;
+    Ok(ShardLists::none(alloc))
 }
 
 /// A subscribe.
@@ -39,16 +29,14 @@ fn subscribe<T: SubTable>(
     conn: ConnId,
     key: &Key,
     sid: &Sid,
-) -> Result<AnswerLists, Unfinished>
+) -> Result<ShardLists, Unfinished>
     ensures { IfOk result (λ lists.
         DoesAgain shard.old.state (Subscribe conn key.now sid.now) lists shard.new.state) }
 {
     let key = key.try_clone(alloc)?;
     let sid = sid.try_clone(alloc)?;
-    match shard.subscribe(conn, key, sid) {
-        Ok(_done) => Ok(AnswerLists::none(alloc)),
-        Err(failure) => Err(unfinished(failure)),
-    }
+    let _done = shard.subscribe(conn, key, sid)?;
+    Ok(ShardLists::none(alloc))
 }
 
 /// An unsubscribe.
@@ -58,14 +46,14 @@ fn unsubscribe<T: SubTable>(
     conn: ConnId,
     sid: &Sid,
     max: Option<u64>,
-) -> Result<AnswerLists, Unfinished>
+) -> Result<ShardLists, Unfinished>
     ensures { IfOk result (λ lists.
         DoesAgain shard.old.state (Unsubscribe conn sid.now max) lists shard.new.state) }
 {
-    match shard.unsubscribe(conn, sid, max) {
-        Ok(_ended) => Ok(AnswerLists::none(alloc)),
-        Err(_fault) => Err(Unfinished::Untold),
-    }
+    let Ok(_ended) = shard.unsubscribe(conn, sid, max) else {
+        return Err(Unfinished::Untold);
+    };
+    Ok(ShardLists::none(alloc))
 }
 
 /// An answer to a connection.
@@ -74,17 +62,12 @@ fn reply<T: SubTable>(
     shard: &mut Shard<T>,
     conn: ConnId,
     frame: &ReplyFrame,
-) -> Result<AnswerLists, Unfinished>
+) -> Result<ShardLists, Unfinished>
     ensures { IfOk result (λ lists.
         DoesAgain shard.old.state (Reply conn frame.now) lists shard.new.state) }
 {
-    match shard.reply(conn, frame) {
-        Ok(closed) => {
-            let Closed { ended, .. } = closed;
-            Ok(AnswerLists::of_closed(alloc, ended))
-        }
-        Err(failure) => Err(unfinished(failure)),
-    }
+    let Closed { ended, .. } = shard.reply(conn, frame)?;
+    Ok(ShardLists::of_closed(alloc, ended))
 }
 
 /// A choice of headers.
@@ -93,14 +76,14 @@ fn set_headers<T: SubTable>(
     shard: &mut Shard<T>,
     conn: ConnId,
     on: bool,
-) -> Result<AnswerLists, Unfinished>
+) -> Result<ShardLists, Unfinished>
     ensures { IfOk result (λ lists.
         DoesAgain shard.old.state (SetHeaders conn on) lists shard.new.state) }
 {
-    match shard.set_headers(conn, on) {
-        Ok(()) => Ok(AnswerLists::none(alloc)),
-        Err(_fault) => Err(Unfinished::Untold),
-    }
+    let Ok(()) = shard.set_headers(conn, on) else {
+        return Err(Unfinished::Untold);
+    };
+    Ok(ShardLists::none(alloc))
 }
 
 /// A connection that is shut.
@@ -109,14 +92,12 @@ fn shut<T: SubTable>(
     shard: &mut Shard<T>,
     conn: ConnId,
     text: ErrText,
-) -> Result<AnswerLists, Unfinished>
+) -> Result<ShardLists, Unfinished>
     ensures { IfOk result (λ lists.
         DoesAgain shard.old.state (Shut conn text) lists shard.new.state) }
 {
-    match shard.shut(conn, text) {
-        Ok(ended) => Ok(AnswerLists::of_closed(alloc, ended)),
-        Err(failure) => Err(unfinished(failure)),
-    }
+    let ended = shard.shut(conn, text)?;
+    Ok(ShardLists::of_closed(alloc, ended))
 }
 
 /// A connection that is gone.
@@ -124,13 +105,11 @@ fn detach<T: SubTable>(
     alloc: Global,
     shard: &mut Shard<T>,
     conn: ConnId,
-) -> Result<AnswerLists, Unfinished>
+) -> Result<ShardLists, Unfinished>
     ensures { IfOk result (λ lists. DoesAgain shard.old.state (Detach conn) lists shard.new.state) }
 {
-    match shard.detach(conn) {
-        Ok(ended) => Ok(AnswerLists::of_closed(alloc, ended)),
-        Err(failure) => Err(unfinished(failure)),
-    }
+    let ended = shard.detach(conn)?;
+    Ok(ShardLists::of_closed(alloc, ended))
 }
 
 /// Entries that are taken.
@@ -139,14 +118,12 @@ fn take<T: SubTable>(
     shard: &mut Shard<T>,
     conn: ConnId,
     count: usize,
-) -> Result<AnswerLists, Unfinished>
+) -> Result<ShardLists, Unfinished>
     ensures { IfOk result (λ lists.
         DoesAgain shard.old.state (Take conn count) lists shard.new.state) }
 {
-    match shard.take(conn, count) {
-        Ok(entries) => Ok(AnswerLists::of_taken(alloc, entries)),
-        Err(failure) => Err(unfinished(failure)),
-    }
+    let entries = shard.take(conn, count)?;
+    Ok(ShardLists::of_taken(alloc, entries))
 }
 
 /// A job that is begun.
@@ -154,14 +131,14 @@ fn begin<T: SubTable>(
     alloc: Global,
     shard: &mut Shard<T>,
     job: &Job,
-) -> Result<AnswerLists, Unfinished>
+) -> Result<ShardLists, Unfinished>
     ensures { IfOk result (λ lists.
         DoesAgain shard.old.state (Begin job.now) lists shard.new.state) }
 {
     let job = job.try_clone()?;
     match shard.begin(job, false) {
-        Ok(_begun) => Ok(AnswerLists::none(alloc)),
-        Err(fault) => Err(unfinished(fault.cause)),
+        Ok(_begun) => Ok(ShardLists::none(alloc)),
+        Err(fault) => Err(Unfinished::from(fault.cause)),
     }
 }
 
@@ -171,41 +148,41 @@ fn claim<T: SubTable>(
     shard: &mut Shard<T>,
     index: u64,
     won: bool,
-) -> Result<AnswerLists, Unfinished>
+) -> Result<ShardLists, Unfinished>
     ensures { IfOk result (λ lists.
         DoesAgain shard.old.state (Claim index won) lists shard.new.state) }
 {
     claims_are_whole();
     match shard.candidate(index, false) {
-        Err(failure) => Err(unfinished(failure)),
+        Err(failure) => Err(Unfinished::from(failure)),
         Ok(None) => {
             if won {
                 return Err(Unfinished::Untold);
             }
-            Ok(AnswerLists::none(alloc))
+            Ok(ShardLists::none(alloc))
         }
         Ok(Some(_candidate)) => {
             if !won {
-                return Ok(AnswerLists::none(alloc));
+                return Ok(ShardLists::none(alloc));
             }
             let _ended = shard.place(index);
-            Ok(AnswerLists::none(alloc))
+            Ok(ShardLists::none(alloc))
         }
     }
 }
 
 /// The job in hand that is ended.
-fn end<T: SubTable>(alloc: Global, shard: &mut Shard<T>) -> Result<AnswerLists, Unfinished>
+fn end<T: SubTable>(alloc: Global, shard: &mut Shard<T>) -> Result<ShardLists, Unfinished>
     ensures { IfOk result (λ lists. DoesAgain shard.old.state End lists shard.new.state) }
 {
-    match shard.end() {
-        Ok(()) => Ok(AnswerLists::none(alloc)),
-        Err(_fault) => Err(Unfinished::Untold),
-    }
+    let Ok(()) = shard.end() else {
+        return Err(Unfinished::Untold);
+    };
+    Ok(ShardLists::none(alloc))
 }
 
 /// The job in hand that is dropped.
-fn drop_hand<T: SubTable>(alloc: Global, shard: &mut Shard<T>) -> Result<AnswerLists, Unfinished>
+fn drop_hand<T: SubTable>(alloc: Global, shard: &mut Shard<T>) -> Result<ShardLists, Unfinished>
     ensures { IfOk result (λ lists.
         DoesAgain shard.old.state (DropJob None) lists shard.new.state) }
 {
@@ -213,7 +190,7 @@ fn drop_hand<T: SubTable>(alloc: Global, shard: &mut Shard<T>) -> Result<AnswerL
         return Err(Unfinished::Untold);
     }
     let _job = shard.drop_job(None);
-    Ok(AnswerLists::none(alloc))
+    Ok(ShardLists::none(alloc))
 }
 
 /// A job that is dropped unbegun.
@@ -221,7 +198,7 @@ fn drop_waiting<T: SubTable>(
     alloc: Global,
     shard: &mut Shard<T>,
     job: &Job,
-) -> Result<AnswerLists, Unfinished>
+) -> Result<ShardLists, Unfinished>
     ensures { IfOk result (λ lists.
         DoesAgain shard.old.state (DropJob (Some job.now)) lists shard.new.state) }
 {
@@ -230,7 +207,7 @@ fn drop_waiting<T: SubTable>(
     }
     let job = job.try_clone()?;
     let _job = shard.drop_job(Some(job));
-    Ok(AnswerLists::none(alloc))
+    Ok(ShardLists::none(alloc))
 }
 
 /// A job that is dropped.
@@ -238,7 +215,7 @@ fn drop_job<T: SubTable>(
     alloc: Global,
     shard: &mut Shard<T>,
     waiting: &Option<Job>,
-) -> Result<AnswerLists, Unfinished>
+) -> Result<ShardLists, Unfinished>
     ensures { IfOk result (λ lists.
         DoesAgain shard.old.state (DropJob waiting.now) lists shard.new.state) }
 {
@@ -249,21 +226,21 @@ fn drop_job<T: SubTable>(
 }
 
 /// A shard that drains.
-fn drain<T: SubTable>(alloc: Global, shard: &mut Shard<T>) -> Result<AnswerLists, Unfinished>
+fn drain<T: SubTable>(alloc: Global, shard: &mut Shard<T>) -> Result<ShardLists, Unfinished>
     ensures { IfOk result (λ lists. DoesAgain shard.old.state Drain lists shard.new.state) }
 {
-    match shard.drain() {
-        Ok(()) => Ok(AnswerLists::none(alloc)),
-        Err(_fault) => Err(Unfinished::Untold),
-    }
+    let Ok(()) = shard.drain() else {
+        return Err(Unfinished::Untold);
+    };
+    Ok(ShardLists::none(alloc))
 }
 
 /// Deltas that are handed to the hub.
-fn collect<T: SubTable>(alloc: Global, shard: &mut Shard<T>) -> AnswerLists
+fn collect<T: SubTable>(alloc: Global, shard: &mut Shard<T>) -> ShardLists
     ensures { DoesAgain shard.old.state Collect result shard.new.state }
 {
     shard.take_deltas();
-    AnswerLists::none(alloc)
+    ShardLists::none(alloc)
 }
 
 /// What the shard was asked for a connection, or to make one.
@@ -271,7 +248,7 @@ fn redo<T: SubTable>(
     alloc: Global,
     shard: &mut Shard<T>,
     event: &ShardEvent,
-) -> Result<AnswerLists, Unfinished>
+) -> Result<ShardLists, Unfinished>
     ensures { IfOk result (λ lists.
         DoesAgain shard.old.state (asked event.now) lists shard.new.state) }
 {
@@ -309,12 +286,12 @@ pub(crate) fn again<T: SubTable>(
     alloc: Global,
     shard: &mut Shard<T>,
     entry: &ShardEntry,
-) -> Result<AnswerLists, Unfinished>
+) -> Result<ShardLists, Unfinished>
     ensures lists { IfOk result (λ lists. lists ≡ lists_at shard.old.state entry.now) }
     ensures state { IfOk result (λ _. shard.new.state ≡ state_behind shard.old.state entry.now) }
 {
     if !is_made(entry.told) {
-        return Ok(AnswerLists::none(alloc));
+        return Ok(ShardLists::none(alloc));
     }
     redo(alloc, shard, &entry.event)
 }
