@@ -7,13 +7,13 @@ use route_session::SessionId;
 use route_values::{Body, Numbered, RouteConnect, RouteInfo, SnapshotKeys};
 use std::alloc::Global;
 use std::sync::Wait;
-use sub_table::ListTable;
+use sub_trie::TrieTable;
 use subj::{ConnId, Failure, Incarnation, Key, NodeId, Pub, QueueNames, Sid, WINDOW};
 use thread_node::{NodeName, ThreadNode};
 use thread_report::Pass;
 
 /// The server.
-pub type Node<N> = ThreadNode<ListTable, N>;
+pub type Node<N> = ThreadNode<TrieTable, N>;
 
 /// `hello` on `foo`, as a client says it, with a header block or none.
 pub fn hello(alloc: Global, block: &str) -> Option<Pub> {

@@ -13,7 +13,7 @@ use node_threads::{HubState, LaneSender, NodeName, Open, ShardState, Tape, Turne
 use std::alloc::{AllocError, Global};
 use std::marker::Brand;
 use std::sync::Wait;
-use sub_table::ListTable;
+use sub_trie::TrieTable;
 use subj::{ConnId, Failure, MAX_COUNTER, Pub, ServerIdentity, Turn};
 
 /// The parts of a server of one shard.
@@ -43,7 +43,7 @@ impl Made {
 }
 
 /// Opens a subscription of a new connection to the jobs' subject, in the second of their queue groups.
-fn member<N: NodeName>(alloc: Global, shard: &mut ShardState<ListTable, N>) -> Option<ConnId> {
+fn member<N: NodeName>(alloc: Global, shard: &mut ShardState<TrieTable, N>) -> Option<ConnId> {
     let conn = shard.attach().ok()?;
     let key = key_of(alloc, "orders.new", "tasks")?;
     let sid = sid_of(alloc, "1")?;
@@ -54,7 +54,7 @@ fn member<N: NodeName>(alloc: Global, shard: &mut ShardState<ListTable, N>) -> O
 /// The same, as an answer.
 fn member_told<N: NodeName>(
     alloc: Global,
-    shard: &mut ShardState<ListTable, N>,
+    shard: &mut ShardState<TrieTable, N>,
 ) -> Result<String, AllocError> {
     match member(alloc, shard) {
         Some(conn) => format!(in alloc; "connection {}", conn.get()),
@@ -65,7 +65,7 @@ fn member_told<N: NodeName>(
 /// How many entries wait for the connection; up to 9 are taken.
 fn take_told<N: NodeName>(
     alloc: Global,
-    shard: &mut ShardState<ListTable, N>,
+    shard: &mut ShardState<TrieTable, N>,
     conn: u64,
 ) -> Result<String, AllocError> {
     match shard.take(ConnId::new(conn), 9) {
@@ -78,7 +78,7 @@ fn take_told<N: NodeName>(
 fn turn_told<N: NodeName, R: Wait>(
     rt: &R,
     alloc: Global,
-    shard: &mut ShardState<ListTable, N>,
+    shard: &mut ShardState<TrieTable, N>,
     cells: &Cells,
 ) -> Result<String, AllocError>
     requires { cells.now ≡ N.race }
@@ -99,7 +99,7 @@ fn turn_told<N: NodeName, R: Wait>(
 fn drop_fault<N: NodeName, R: Wait>(
     rt: &R,
     alloc: Global,
-    shard: &mut ShardState<ListTable, N>,
+    shard: &mut ShardState<TrieTable, N>,
     cells: &Cells,
 ) -> u16
     requires { cells.now ≡ N.race }
@@ -122,7 +122,7 @@ fn drop_told(alloc: Global, fault: u16) -> Result<String, AllocError> {
 fn shard_answer<N: NodeName, R: Wait>(
     rt: &R,
     alloc: Global,
-    shard: &mut ShardState<ListTable, N>,
+    shard: &mut ShardState<TrieTable, N>,
     cells: &Cells,
     line: &Call<'_>,
 ) -> Result<String, AllocError>
@@ -161,7 +161,7 @@ struct Alone<N: NodeName> {
     alloc: Global,
     cells: Cells,
     hub: HubSeat,
-    shard: ShardState<ListTable, N>,
+    shard: ShardState<TrieTable, N>,
     near: Option<Fresh>,
     ghost race: { cells ≡ N.race },
     ghost of_hub: { hub.race ≡ cells },
@@ -242,7 +242,7 @@ struct Beside<N: NodeName> {
     alloc: Global,
     cells: Cells,
     hub: HubState<N>,
-    shard: ShardState<ListTable, N>,
+    shard: ShardState<TrieTable, N>,
     ghost race: { cells ≡ N.race },
 }
 

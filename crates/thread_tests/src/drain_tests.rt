@@ -12,7 +12,7 @@ use std::process::Abort;
 use std::sync::Wait;
 use std::test::Fail;
 use std::thread::Threads;
-use sub_table::ListTable;
+use sub_trie::TrieTable;
 use subj::{ConnId, Failure};
 use thread_node::{NodeName, Parts, ThreadNode};
 use thread_report::{Pass, finish};
@@ -21,7 +21,7 @@ use thread_report::{Pass, finish};
 fn is_refused<N: NodeName, R: Abort + Wait>(
     rt: &R,
     alloc: Global,
-    node: &ThreadNode<ListTable, N>,
+    node: &ThreadNode<TrieTable, N>,
     pass: &mut Pass<N>,
     shard: u64,
     conn: ConnId,
@@ -40,7 +40,7 @@ fn is_refused<N: NodeName, R: Abort + Wait>(
 fn drains<N: NodeName, R: Abort + Wait>(
     rt: &R,
     alloc: Global,
-    node: &ThreadNode<ListTable, N>,
+    node: &ThreadNode<TrieTable, N>,
     pass: &mut Pass<N>,
 ) {
     let first = told_member(rt, alloc, node, pass, 1);
@@ -63,7 +63,7 @@ fn drained_reports<N: NodeName + Send + Sync, R: Abort + Threads + Wait + Sync>(
 )
     requires { (parts.race ≡ N.race) × (parts.lanes ≡ N.lanes) × (parts.keep ≡ N.keep) }
 {
-    let node: ThreadNode<ListTable, N> = ThreadNode::start(alloc, parts).ok().expect(rt, "memory");
+    let node: ThreadNode<TrieTable, N> = ThreadNode::start(alloc, parts).ok().expect(rt, "memory");
     let mut pass = Pass::new(alloc);
     drains(rt, alloc, &node, &mut pass);
     let passes = Vec::from_array(alloc, [pass]).ok().expect(rt, "memory");
@@ -83,7 +83,7 @@ fn a_server_that_drains_has_its_report(rt: HostRuntime) -> Result<(), Fail> {
 fn drains_the_rest<N: NodeName, R: Abort + Wait>(rt: &R, alloc: Global, parts: Parts)
     requires { (parts.race ≡ N.race) × (parts.lanes ≡ N.lanes) × (parts.keep ≡ N.keep) }
 {
-    let node: ThreadNode<ListTable, N> = ThreadNode::start(alloc, parts).ok().expect(rt, "memory");
+    let node: ThreadNode<TrieTable, N> = ThreadNode::start(alloc, parts).ok().expect(rt, "memory");
     assert!(rt; node.drain_shard(rt, 1).is_ok());
     assert!(rt; matches!(node.drain(rt), Ok(Some(_))));
     assert!(rt; node.drain_shard(rt, 2).is_err());
@@ -99,7 +99,7 @@ fn drains_the_rest<N: NodeName, R: Abort + Wait>(rt: &R, alloc: Global, parts: P
 fn drains_the_last<N: NodeName, R: Abort + Wait>(rt: &R, alloc: Global, parts: Parts)
     requires { (parts.race ≡ N.race) × (parts.lanes ≡ N.lanes) × (parts.keep ≡ N.keep) }
 {
-    let node: ThreadNode<ListTable, N> = ThreadNode::start(alloc, parts).ok().expect(rt, "memory");
+    let node: ThreadNode<TrieTable, N> = ThreadNode::start(alloc, parts).ok().expect(rt, "memory");
     assert!(rt; node.drain_hub(rt).is_ok());
     assert!(rt; node.drain_shard(rt, 1).is_ok());
     assert!(rt; matches!(node.drain(rt), Ok(None)));

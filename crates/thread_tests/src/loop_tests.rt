@@ -21,7 +21,7 @@ use std::test::Fail;
 use std::thread;
 use std::thread::join;
 use std::time::{Duration, Instant};
-use sub_table::ListTable;
+use sub_trie::TrieTable;
 use subj::{HostText, Incarnation, NodeId, ServerIdentity};
 use thread_node::{NodeName, Parts, ThreadNode};
 
@@ -166,7 +166,7 @@ fn run_named<N: NodeName, R: Abort + Wait + Net + Clock + RandomSource>(
 ) -> bool
     requires { (parts.race ≡ N.race) × (parts.lanes ≡ N.lanes) × (parts.keep ≡ N.keep) }
 {
-    let node: ThreadNode<ListTable, N> = ThreadNode::start(alloc, parts).ok().expect(rt, "memory");
+    let node: ThreadNode<TrieTable, N> = ThreadNode::start(alloc, parts).ok().expect(rt, "memory");
     run_on(rt, alloc, &node, sockets, addresses, shutdown, watch)
 }
 

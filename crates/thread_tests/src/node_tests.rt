@@ -14,7 +14,7 @@ use std::sync::atomic::{AtomicU64, Ordering};
 use std::test::Fail;
 use std::thread;
 use std::thread::Threads;
-use sub_table::ListTable;
+use sub_trie::TrieTable;
 use subj::{
     ConnId, Failure, Incarnation, Key, MAX_SHARDS, Message, NodeId, Pattern, Pub, QueueName,
     ServerIdentity, Sid, Subject, Turn,
@@ -63,7 +63,7 @@ pub(crate) fn sid(rt: &impl Abort, alloc: Global) -> Sid {
 fn member<N: NodeName, R: Abort + Wait>(
     rt: &R,
     alloc: Global,
-    node: &ThreadNode<ListTable, N>,
+    node: &ThreadNode<TrieTable, N>,
     shard: u64,
 ) -> ConnId {
     let conn = node.attach(rt, shard).ok().expect(rt, "a connection");
@@ -77,7 +77,7 @@ fn member<N: NodeName, R: Abort + Wait>(
 pub(crate) fn told_member<N: NodeName, R: Abort + Wait>(
     rt: &R,
     alloc: Global,
-    node: &ThreadNode<ListTable, N>,
+    node: &ThreadNode<TrieTable, N>,
     pass: &mut Pass<N>,
     shard: u64,
 ) -> ConnId {
@@ -111,7 +111,7 @@ fn come_to(answer: Result<Turn, Failure<HubFault>>) -> Published {
 /// Publishes once.
 fn publish<N: NodeName, R: Wait>(
     rt: &R,
-    node: &ThreadNode<ListTable, N>,
+    node: &ThreadNode<TrieTable, N>,
     conn: ConnId,
     publication: &Pub,
 ) -> Published {
@@ -122,7 +122,7 @@ fn publish<N: NodeName, R: Wait>(
 /// The same by a caller with a pass.
 fn told_publish<N: NodeName, R: Wait>(
     rt: &R,
-    node: &ThreadNode<ListTable, N>,
+    node: &ThreadNode<TrieTable, N>,
     pass: &mut Pass<N>,
     conn: ConnId,
     publication: &Pub,
@@ -138,7 +138,7 @@ const EACH: u64 = 500;
 /// how often it did.
 fn publish_all<N: NodeName, R: Wait>(
     rt: &R,
-    node: &ThreadNode<ListTable, N>,
+    node: &ThreadNode<TrieTable, N>,
     conn: u64,
     publication: &Pub,
 ) -> u64 {
@@ -160,7 +160,7 @@ fn publish_all<N: NodeName, R: Wait>(
 /// Takes all that waits for a connection: how many entries.
 fn take_count<N: NodeName, R: Wait>(
     rt: &R,
-    node: &ThreadNode<ListTable, N>,
+    node: &ThreadNode<TrieTable, N>,
     shard: u64,
     conn: ConnId,
 ) -> u64 {
@@ -171,7 +171,7 @@ fn take_count<N: NodeName, R: Wait>(
 /// All that waits for the members of the first and the last shard: how many entries.
 fn all_taken<N: NodeName, R: Wait>(
     rt: &R,
-    node: &ThreadNode<ListTable, N>,
+    node: &ThreadNode<TrieTable, N>,
     first: ConnId,
     last: ConnId,
 ) -> u64 {
@@ -209,7 +209,7 @@ impl Gate for Meeting {
 fn meets_in_turn<N: NodeName + Send + Sync, R: Abort + Threads + Wait + Sync>(
     rt: &R,
     alloc: Global,
-    node: &ThreadNode<ListTable, N>,
+    node: &ThreadNode<TrieTable, N>,
 ) {
     let gate = Meeting {
         came: AtomicU64::new(0),
@@ -227,7 +227,7 @@ fn meets_in_turn<N: NodeName + Send + Sync, R: Abort + Threads + Wait + Sync>(
 /// Works the lanes until each shard has finished the turn of this number, or has made so many tries.
 fn work_until<N: NodeName + Send + Sync, R: Threads + Wait + Sync>(
     rt: &R,
-    node: &ThreadNode<ListTable, N>,
+    node: &ThreadNode<TrieTable, N>,
     until: u64,
     tries: u64,
 ) {
@@ -239,7 +239,7 @@ fn work_until<N: NodeName + Send + Sync, R: Threads + Wait + Sync>(
 /// Two threads publish: how often each of them did.
 fn both_publish<N: NodeName + Send + Sync, R: Threads + Wait + Sync>(
     rt: &R,
-    node: &ThreadNode<ListTable, N>,
+    node: &ThreadNode<TrieTable, N>,
     publication: &Pub,
     conns: (u64, u64),
 ) -> (u64, u64) {
@@ -253,7 +253,7 @@ fn both_publish<N: NodeName + Send + Sync, R: Threads + Wait + Sync>(
 /// Two threads publish, while two others work the lanes: how often each of the two did.
 fn published_by_two<N: NodeName + Send + Sync, R: Threads + Wait + Sync>(
     rt: &R,
-    node: &ThreadNode<ListTable, N>,
+    node: &ThreadNode<TrieTable, N>,
     publication: &Pub,
     conns: (u64, u64),
 ) -> (u64, u64) {
@@ -269,7 +269,7 @@ fn published_by_two<N: NodeName + Send + Sync, R: Threads + Wait + Sync>(
 fn serves_from_four<N: NodeName + Send + Sync, R: Abort + Threads + Wait + Sync>(
     rt: &R,
     alloc: Global,
-    node: &ThreadNode<ListTable, N>,
+    node: &ThreadNode<TrieTable, N>,
 ) {
     let first = member(rt, alloc, node, 1);
     let second = member(rt, alloc, node, 2);
@@ -282,7 +282,7 @@ fn serves_from_four<N: NodeName + Send + Sync, R: Abort + Threads + Wait + Sync>
 /// Publishes, and then has the workers stop: how often it did.
 fn publish_and_stop<N: NodeName, R: Wait>(
     rt: &R,
-    node: &ThreadNode<ListTable, N>,
+    node: &ThreadNode<TrieTable, N>,
     publication: &Pub,
     conn: u64,
 ) -> u64 {
@@ -294,7 +294,7 @@ fn publish_and_stop<N: NodeName, R: Wait>(
 /// Two threads work the lanes, and sleep until they are woken.
 fn both_work<N: NodeName + Send + Sync, R: Threads + Wait + Sync>(
     rt: &R,
-    node: &ThreadNode<ListTable, N>,
+    node: &ThreadNode<TrieTable, N>,
     parkers: (Parker, Parker),
 ) {
     let (of_first, of_second) = parkers;
@@ -308,7 +308,7 @@ fn both_work<N: NodeName + Send + Sync, R: Threads + Wait + Sync>(
 /// One thread publishes and then has the workers stop, while two work the lanes, which sleep until they are woken: how often it did.
 fn published_until_stopped<N: NodeName + Send + Sync, R: Threads + Wait + Sync>(
     rt: &R,
-    node: &ThreadNode<ListTable, N>,
+    node: &ThreadNode<TrieTable, N>,
     publication: &Pub,
     conn: u64,
     parkers: (Parker, Parker),
@@ -325,7 +325,7 @@ fn published_until_stopped<N: NodeName + Send + Sync, R: Threads + Wait + Sync>(
 fn works_until_stopped<N: NodeName + Send + Sync, R: Abort + Threads + Wait + Sync>(
     rt: &R,
     alloc: Global,
-    node: &ThreadNode<ListTable, N>,
+    node: &ThreadNode<TrieTable, N>,
     parkers: (Parker, Parker),
 ) {
     let first = member(rt, alloc, node, 1);
@@ -353,7 +353,7 @@ fn let_others_run() {
 /// Publishes [`EACH_LEAVING`] times for the connection of this number, as [`publish_all`] does but with pauses, and counts each time.
 fn publish_counted<N: NodeName, R: Wait>(
     rt: &R,
-    node: &ThreadNode<ListTable, N>,
+    node: &ThreadNode<TrieTable, N>,
     pass: &mut Pass<N>,
     conn: u64,
     publication: &Pub,
@@ -390,7 +390,7 @@ fn wait_for_half<R: Wait>(rt: &R, count: &AtomicU64) {
 /// A connection of the shard goes, and the hub hears of it.
 fn goes<N: NodeName, R: Wait>(
     rt: &R,
-    node: &ThreadNode<ListTable, N>,
+    node: &ThreadNode<TrieTable, N>,
     pass: &mut Pass<N>,
     shard: u64,
     conn: u64,
@@ -402,7 +402,7 @@ fn goes<N: NodeName, R: Wait>(
 /// Once half of the publications came, a connection of each of the two shards goes.
 fn leave<N: NodeName, R: Wait>(
     rt: &R,
-    node: &ThreadNode<ListTable, N>,
+    node: &ThreadNode<TrieTable, N>,
     pass: &mut Pass<N>,
     leaving: (u64, u64),
     count: &AtomicU64,
@@ -416,7 +416,7 @@ fn leave<N: NodeName, R: Wait>(
 fn pair<N: NodeName, R: Abort + Wait>(
     rt: &R,
     alloc: Global,
-    node: &ThreadNode<ListTable, N>,
+    node: &ThreadNode<TrieTable, N>,
     pass: &mut Pass<N>,
 ) -> (u64, u64) {
     let first = told_member(rt, alloc, node, pass, 1).get();
@@ -428,7 +428,7 @@ fn pair<N: NodeName, R: Abort + Wait>(
 fn answered_publisher<N: NodeName, R: Wait>(
     rt: &R,
     alloc: Global,
-    node: &ThreadNode<ListTable, N>,
+    node: &ThreadNode<TrieTable, N>,
     conn: u64,
     publication: &Pub,
     count: &AtomicU64,
@@ -442,7 +442,7 @@ fn answered_publisher<N: NodeName, R: Wait>(
 fn answered_publishers<N: NodeName + Send + Sync, R: Threads + Wait + Sync>(
     rt: &R,
     alloc: Global,
-    node: &ThreadNode<ListTable, N>,
+    node: &ThreadNode<TrieTable, N>,
     conns: (u64, u64),
     publication: &Pub,
     count: &AtomicU64,
@@ -457,7 +457,7 @@ fn answered_publishers<N: NodeName + Send + Sync, R: Threads + Wait + Sync>(
 /// Two threads work the lanes until each shard has worked all publications, and this one has members leave.
 fn work_and_leave<N: NodeName + Send + Sync, R: Threads + Wait + Sync>(
     rt: &R,
-    node: &ThreadNode<ListTable, N>,
+    node: &ThreadNode<TrieTable, N>,
     clients: &mut Pass<N>,
     leaving: (u64, u64),
     count: &AtomicU64,
@@ -473,7 +473,7 @@ fn work_and_leave<N: NodeName + Send + Sync, R: Threads + Wait + Sync>(
 fn answered<N: NodeName + Send + Sync, R: Threads + Wait + Sync>(
     rt: &R,
     alloc: Global,
-    node: &ThreadNode<ListTable, N>,
+    node: &ThreadNode<TrieTable, N>,
     publication: &Pub,
     clients: &mut Pass<N>,
     members: ((u64, u64), (u64, u64)),
@@ -493,7 +493,7 @@ fn answered<N: NodeName + Send + Sync, R: Threads + Wait + Sync>(
 fn serve_leaving<N: NodeName + Send + Sync, R: Abort + Threads + Wait + Sync>(
     rt: &R,
     alloc: Global,
-    node: &ThreadNode<ListTable, N>,
+    node: &ThreadNode<TrieTable, N>,
     clients: &mut Pass<N>,
 ) -> (Pass<N>, Pass<N>) {
     let staying = pair(rt, alloc, node, clients);
@@ -506,7 +506,7 @@ fn serve_leaving<N: NodeName + Send + Sync, R: Abort + Threads + Wait + Sync>(
 fn left<N: NodeName + Send + Sync, R: Abort + Threads + Wait + Sync>(
     rt: &R,
     alloc: Global,
-    node: &ThreadNode<ListTable, N>,
+    node: &ThreadNode<TrieTable, N>,
 ) -> Vec<Pass<N>> {
     let mut clients = Pass::new(alloc);
     let (first, second) = serve_leaving(rt, alloc, node, &mut clients);
@@ -518,7 +518,7 @@ fn left<N: NodeName + Send + Sync, R: Abort + Threads + Wait + Sync>(
 fn publish_turns<N: NodeName, R: Abort + Wait>(
     rt: &R,
     alloc: Global,
-    node: &ThreadNode<ListTable, N>,
+    node: &ThreadNode<TrieTable, N>,
     pass: &mut Pass<N>,
     conn: ConnId,
     count: u64,
@@ -533,7 +533,7 @@ fn publish_turns<N: NodeName, R: Abort + Wait>(
 /// Takes all that waits for a connection, by a caller with a pass: how many entries.
 fn told_take_count<N: NodeName, R: Abort + Wait>(
     rt: &R,
-    node: &ThreadNode<ListTable, N>,
+    node: &ThreadNode<TrieTable, N>,
     pass: &mut Pass<N>,
     shard: u64,
     conn: ConnId,
@@ -547,7 +547,7 @@ fn told_take_count<N: NodeName, R: Abort + Wait>(
 fn serve<N: NodeName + Send + Sync, R: Abort + Threads + Wait + Sync>(
     rt: &R,
     alloc: Global,
-    node: &ThreadNode<ListTable, N>,
+    node: &ThreadNode<TrieTable, N>,
     clients: &mut Pass<N>,
     publisher: &mut Pass<N>,
     count: u64,
@@ -567,7 +567,7 @@ fn serve<N: NodeName + Send + Sync, R: Abort + Threads + Wait + Sync>(
 fn served<N: NodeName + Send + Sync, R: Abort + Threads + Wait + Sync>(
     rt: &R,
     alloc: Global,
-    node: &ThreadNode<ListTable, N>,
+    node: &ThreadNode<TrieTable, N>,
     count: u64,
 ) -> Vec<Pass<N>> {
     let mut clients = Pass::new(alloc);
@@ -592,7 +592,7 @@ enum Play {
 fn perform<N: NodeName + Send + Sync, R: Abort + Threads + Wait + Sync>(
     rt: &R,
     alloc: Global,
-    node: &ThreadNode<ListTable, N>,
+    node: &ThreadNode<TrieTable, N>,
     what: Play,
 ) -> Vec<Pass<N>> {
     match what {
@@ -614,7 +614,7 @@ fn stage<N: NodeName + Send + Sync, R: Abort + Threads + Wait + Sync>(
 ) -> Report
     requires { (parts.race ≡ N.race) × (parts.lanes ≡ N.lanes) × (parts.keep ≡ N.keep) }
 {
-    let node: ThreadNode<ListTable, N> = ThreadNode::start(alloc, parts).ok().expect(rt, "memory");
+    let node: ThreadNode<TrieTable, N> = ThreadNode::start(alloc, parts).ok().expect(rt, "memory");
     let passes = perform(rt, alloc, &node, what);
     finish(rt, alloc, node, passes).ok().expect(rt, "a report")
 }
