@@ -1,10 +1,13 @@
 """Tries wrong bodies: the edits of a crate that the gate tries (`.edit`) and those that stand beside it (`.edit.md`).
 
-Usage: tools/dev edits CRATE..    those of these crates
-       tools/dev edits --all      those of every crate, with a line for each crate and a summary at the end
+Usage: tools/dev edits CRATE..               those of these crates, each alone
+       tools/dev edits --all                 those of every crate, with a line for each crate and a summary at the end
+       tools/dev edits --together CRATE..    those of these crates, one in each function at a time; those that are not refused at their own function
+                                             are to be tried alone
 
-Each edit costs as much as the proof of what it changes, and the first of a crate as much as the crate. So the gate tries those of a few crates
-whose proofs are cheap, and the others stand beside it (docs/DECISIONS.md). While they are tried they stand as `.edit` files, which go at the end.
+Each edit that is tried alone costs as much as the proof of what it changes, and the first of a crate as much as the crate. So the gate tries those of a
+few crates whose proofs are cheap, and the others stand beside it (docs/DECISIONS.md). While they are tried they stand as `.edit` files, which go at the
+end. Together they cost some two to four proofs of the crate.
 """
 import os
 import re
@@ -13,6 +16,7 @@ import subprocess
 import sys
 import time
 
+from planting import try_together
 from repository import TOP, folder_of, lines_of_crates
 
 # How the name of an edit ends that stands beside the gate, and of one that the gate tries.
@@ -60,8 +64,26 @@ def try_crate(crate):
     return count, refused
 
 
+def try_all_together(crates):
+    """Tries all edits of crates, one in each function at a time. Gives the status to end with."""
+    start, alone = time.monotonic(), 0
+    for crate in crates:
+        begun = time.monotonic()
+        refused, others = try_together(crate, names_of(crate, TRIED) + names_of(crate, BESIDE))
+        alone += len(others)
+        for name, line in refused:
+            print(f"  {name}: {line[:160]}")
+        for name in others:
+            print(f"  {name}: to be tried alone")
+        print(f"{crate}: {len(refused)} of {len(refused) + len(others)} refused, {time.monotonic() - begun:.0f} s", flush=True)
+    print(f"{alone} are to be tried alone, {time.monotonic() - start:.0f} s")
+    return 1 if alone else 0
+
+
 def main(words):
     crates = list(lines_of_crates())
+    if len(words) > 1 and words[0] == "--together" and all(word in crates for word in words[1:]):
+        return try_all_together(words[1:])
     if words == ["--all"]:
         chosen = [crate for crate in crates if names_of(crate, BESIDE) or names_of(crate, TRIED)]
     elif words and all(word in crates for word in words):
