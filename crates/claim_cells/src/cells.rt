@@ -3,7 +3,7 @@
 ghost use Rattle.std.specs.Prelude.{◌≡◌, ℕ, ◌+◌, ◌<◌, ◌≤◌, [], true, false, IfOk, IsOk};
 ghost use Rattle.subj.specs.declared.limits.TheConstants.{MAX_COUNTER, MAX_QUEUE_NAMES, MAX_SHARDS, WINDOW};
 ghost use Rattle.claim_cells.specs.Rule.{Has, whole_view, fresh_hub};
-ghost use Rattle.claim_cells.specs.Steps.{part_after_load, won_by, lost_by, finished_more, finished_one};
+ghost use Rattle.claim_cells.specs.Steps.{part_after_load, won_by, lost_by, finished_more, finished_one, issued_one};
 ghost use Rattle.claim_cells.specs.Seats.{HasTurn, last_load, turns_seen};
 ghost use Rattle.claim_cells.specs.Calls.{AllNew, AreLoads, IsIssuedOrBusy, IsLooked, ShowsRoom};
 
@@ -128,6 +128,23 @@ impl Cells {
         let turn = self.issue_at(&mut seat.place, seat.issued)?;
         seat.issued = turn;
         Ok(turn)
+    }
+
+    /// Issues the next turn by the loads that the seat keeps, without another look at the shards. Required: the seat is of this race, its
+    /// loads show room, and the last turn issued is below [`MAX_COUNTER`](subj::MAX_COUNTER).
+    #[inline(always)]
+    pub fn issue_shown(&self, seat: &mut HubSeat) -> Turn
+        requires race { seat.old.race ≡ self.now }
+        requires limit { seat.old.part.issued < MAX_COUNTER }
+        requires room { ShowsRoom self.now.shards seat.old.part }
+        ensures race { seat.new.race ≡ seat.old.race }
+        ensures turn { result ≡ seat.old.part.issued + 1 }
+        ensures part { seat.new.part ≡ issued_one seat.old.part }
+    {
+        let turn = seat.issued.next().unwrap();
+        self.store_issued(&mut seat.place, turn);
+        seat.issued = turn;
+        turn
     }
 
     /// Loads the last turn issued.

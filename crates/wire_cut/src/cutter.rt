@@ -1,5 +1,5 @@
 //! Cuts a stream into lines and payloads.
-ghost use Rattle.std.specs.Prelude.{◌≡◌, ◌^◌, ◌<◌, ◌≤◌, None, Some, Ok, length};
+ghost use Rattle.std.specs.Prelude.{◌≡◌, ◌-◌, ◌^◌, ◌<◌, ◌≤◌, None, Some, Ok, length, drop, false};
 ghost use Rattle.std.specs.Prelude.{IsTrue, IfNone, IfSome, IfOk, OnOk, OnErr, take};
 ghost use Rattle.std.specs.Result.{result_err};
 ghost use Rattle.std.specs.Borrow.{sem};
@@ -268,6 +268,30 @@ impl Cutter {
         }
         self.expected = Some(size as usize);
         Ok(())
+    }
+
+    /// The bytes that were fed and not given yet.
+    pub fn unread(&self) -> &[u8]
+        ensures { result.now ≡ self.now.unread }
+    {
+        self.window.unread()
+    }
+
+    /// Consumes what was fed and not given yet, but for so many bytes: pieces that whoever asks for it has cut by themselves, of which
+    /// the last is a payload. Required: a line has to come next, and there are so many bytes.
+    pub fn consume_to(&mut self, left: usize)
+        requires no_fault { self.old.fault ≡ None }
+        requires line { self.old.expected ≡ None }
+        requires left { left ≤ length self.old.unread }
+        ensures { self.new ≡ record self.old {
+          unread = drop (length self.old.unread - left) self.old.unread;
+          after_line = false;
+        } }
+    {
+        let count = self.window.unread().len() - left;
+        self.after_line = false;
+        self.searched = 0;
+        self.window.advance(count);
     }
 
     /// How many bytes were fed and not given yet: those of what is unfinished. Where more bytes are
