@@ -111,3 +111,17 @@ tail_for tails option = if option then tails.headed else tails.plain
 
 abbrev pub head_for : Tails → List ℕ → Bool → List ℕ
 head_for tails head option = if option && tails.has_block then head else drop 1 head
+
+-- ---- the second part of a message without a header block, by its reply and its payload
+
+abbrev pub plain_tail : Option (List ℕ) → List ℕ → List ℕ
+plain_tail reply payload =
+    (codes " " ++ (reply_field reply ++ decimal (length payload)))
+    ++ (line_end ++ (payload ++ line_end))
+
+abbrev pub plain_tails : Option (List ℕ) → List ℕ → Tails
+plain_tails reply payload = record {
+  plain = plain_tail reply payload;
+  headed = plain_tail reply payload;
+  has_block = false;
+}

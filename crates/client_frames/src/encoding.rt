@@ -1,6 +1,7 @@
 //! Writing what a server sends, and the lines that messages are delivered with.
 
-ghost use Rattle.std.specs.Prelude.{◌≡◌, ℕ, ◌+◌, ◌≤◌, List, codes, decimal, length, None, Some, option_map, IfOk, OnOk, ◌++◌, is_ok, if◌then◌else◌};
+ghost use Rattle.std.specs.Prelude.{◌≡◌, ℕ, ◌+◌, ◌≤◌, List, codes, decimal, length, None, Some, option_map, IfOk, IfSome, OnOk, ◌++◌, is_ok, if◌then◌else◌};
+ghost use Rattle.std.specs.Option.{option_copied};
 ghost use Rattle.client_frames.specs.Messages.{parts_with, headers_due, operation, block_field, reply_field, line_forms, form_for, line_around, due_line, due_body, due_bytes};
 ghost use Rattle.std.specs.Cow.{cow_slice_items};
 ghost use Rattle.client_frames.specs.Frames.{frame_bytes, reply_line as line_of_reply};
@@ -64,6 +65,25 @@ pub(crate) fn append_number(number: usize, text: &mut Vec<u8>) -> Result<(), All
     Ok(())
 }
 
+/// Appends the blank behind the subscription id, and a reply with the blank behind it, where there is one.
+#[inline(always)]
+pub(crate) fn append_reply_bytes(reply: Option<&[u8]>, text: &mut Vec<u8>) -> Result<(), AllocError>
+    requires { IfSome (option_copied reply) (λ reply. length reply ≤ MAX_SUBJECT) }
+    ensures same { OnOk result
+        (text.new.items
+        ≡ text.old.items ++ (codes " " ++ reply_field (option_copied reply.entry))) }
+    ensures fits { OnOk result
+        (length text.new.items ≤ length text.old.items + 1 + MAX_SUBJECT + 1) }
+{
+    text.extend_from_slice(BLANK)?;
+    let Some(reply) = reply else {
+        return Ok(());
+    };
+    text.extend_from_slice(reply)?;
+    text.extend_from_slice(BLANK)?;
+    Ok(())
+}
+
 /// Appends the blank behind the subscription id, and the reply of a message with the blank behind it.
 #[inline(always)]
 pub(crate) fn append_reply(message: &Message, text: &mut Vec<u8>) -> Result<(), AllocError>
@@ -72,13 +92,10 @@ pub(crate) fn append_reply(message: &Message, text: &mut Vec<u8>) -> Result<(), 
     ensures fits { OnOk result
         (length text.new.items ≤ length text.old.items + 1 + MAX_SUBJECT + 1) }
 {
-    text.extend_from_slice(BLANK)?;
-    let Some(reply) = message.reply() else {
-        return Ok(());
-    };
-    text.extend_from_slice(reply.bytes())?;
-    text.extend_from_slice(BLANK)?;
-    Ok(())
+    match message.reply() {
+        None => append_reply_bytes(None, text),
+        Some(reply) => append_reply_bytes(Some(reply.bytes()), text),
+    }
 }
 
 /// The line of a message in one form, without the subscription id.

@@ -1,11 +1,14 @@
 //! The bytes of a message in two parts: the first is the same for all messages of a subject to one subscription, and the second
 //! for all subscriptions to one message.
 
-ghost use Rattle.std.specs.Prelude.{◌≡◌, ◌≤◌, ◌+◌, ◌++◌, true, false, is_some, length, Some, IfOk, OnOk};
-ghost use Rattle.client_frames.specs.Messages.{head_bytes, head_for, tail_bytes, tail_for, tails_of};
+ghost use Rattle.std.specs.Prelude.{◌≡◌, ◌≤◌, ◌+◌, ◌++◌, true, false, is_some, length, Some, IfOk, IfSome, OnOk};
+ghost use Rattle.std.specs.Option.{option_copied};
+ghost use Rattle.client_frames.specs.Messages.{head_bytes, head_for, plain_tail, plain_tails, tail_bytes, tail_for, tails_of};
 ghost use Rattle.line_fields.specs.LineEnd.{line_end};
 
-use crate::encoding::{BLANK, HMSG, MAX_BEHIND, append_number, append_reply, message_body};
+use crate::encoding::{
+    BLANK, HMSG, MAX_BEHIND, append_number, append_reply, append_reply_bytes, message_body,
+};
 use line_fields::{CR_LF, append_reserved};
 use std::alloc::{AllocError, Global};
 use std::marker::Model;
@@ -54,6 +57,20 @@ fn append_plain(message: &Message, out: &mut Vec<u8>) -> Result<(), AllocError>
     append_body(message_body(message, false), out)
 }
 
+/// Appends the second part of a message without a header block that has this reply and this payload.
+fn append_parts(reply: Option<&[u8]>, payload: &[u8], out: &mut Vec<u8>) -> Result<(), AllocError>
+    requires reply { IfSome (option_copied reply) (λ reply. length reply ≤ MAX_SUBJECT) }
+    requires payload { length payload.now ≤ MAX_PAYLOAD }
+    ensures same { OnOk result
+        (out.new.items
+        ≡ out.old.items ++ plain_tail (option_copied reply.entry) payload.now) }
+    ensures fits { OnOk result (length out.new.items ≤ length out.old.items + MAX_TAIL) }
+{
+    append_reply_bytes(reply, out)?;
+    append_number(payload.len(), out)?;
+    append_body(payload, out)
+}
+
 /// Appends the second part of a message that goes with this header block, which is its own.
 fn append_headed(message: &Message, block: &[u8], out: &mut Vec<u8>) -> Result<(), AllocError>
     requires { message.now.headers ≡ Some block.now }
@@ -74,6 +91,23 @@ fn write_plain(message: &Message, out: &mut Vec<u8>) -> Result<(), AllocError>
 {
     out.clear();
     let written = append_plain(message, out);
+    if written.is_err() {
+        out.clear();
+    }
+    written
+}
+
+/// Writes the second part of a message without a header block, that has this reply and this payload, in place of what is there.
+/// Nothing is there for want of memory.
+fn write_parts(reply: Option<&[u8]>, payload: &[u8], out: &mut Vec<u8>) -> Result<(), AllocError>
+    requires reply { IfSome (option_copied reply) (λ reply. length reply ≤ MAX_SUBJECT) }
+    requires payload { length payload.now ≤ MAX_PAYLOAD }
+    ensures same { OnOk result
+        (out.new.items ≡ plain_tail (option_copied reply.entry) payload.now) }
+    ensures fits { length out.new.items ≤ MAX_TAIL }
+{
+    out.clear();
+    let written = append_parts(reply, payload, out);
     if written.is_err() {
         out.clear();
     }
@@ -144,6 +178,19 @@ impl MessageTails {
     {
         write_plain(message, &mut self.plain)?;
         self.has_block = write_headed(message, &mut self.headed)?;
+        Ok(())
+    }
+
+    /// Those of a message without a header block that has this reply and this payload, in place of what was there. Required: the
+    /// reply is as long as a subject may be, and the payload is within its limit.
+    pub fn write_parts(&mut self, reply: Option<&[u8]>, payload: &[u8]) -> Result<(), AllocError>
+        requires reply { IfSome (option_copied reply) (λ reply. length reply ≤ MAX_SUBJECT) }
+        requires payload { length payload.now ≤ MAX_PAYLOAD }
+        ensures { OnOk result
+            (self.new ≡ plain_tails (option_copied reply.entry) payload.now) }
+    {
+        write_parts(reply, payload, &mut self.plain)?;
+        self.has_block = false;
         Ok(())
     }
 
