@@ -1,6 +1,6 @@
 -- A run of messages: how many there are, how many bytes they have, and how it is kept.
 use Rattle.std.specs.Prelude.{Bool, true, false, not, ◌&&◌, nat_le}
-use Rattle.std.proofs.Common.{◌≡◌, ℕ, zero, suc, ◌+◌, ◌*◌, ◌-◌, ◌<◌, ◌≤◌, List, [], ◌∷◌, ◌++◌, length, map, take, drop, get_or, refl, sym, ap, ◌∙◌, arith, append_assoc, length-append, length-drop, length-take-le}
+use Rattle.std.proofs.Common.{◌≡◌, ℕ, zero, suc, ◌+◌, ◌*◌, ◌-◌, ◌<◌, ◌≤◌, List, [], ◌∷◌, ◌++◌, length, map, take, drop, get_or, refl, sym, ap, inl, inr, ◌∙◌, arith, append_assoc, length-append, length-drop, length-take-le}
 use Rattle.std.proofs.Math.Nat.{mul-suc}
 use Rattle.std.proofs.Math.Seq.{take-append_seam, drop-append_seam}
 use Rattle.std.proofs.lemmas.Bool.Decides.{nat_tests}
@@ -9,7 +9,7 @@ use Rattle.std.proofs.lemmas.List.{drop-drop, drop-append-le, take-append-le, ta
 use Rattle.subj.specs.declared.identities.PubId.{PubId}
 use Rattle.subj.specs.declared.identities.SubId.{SubId}
 use Rattle.outbox.specs.Kept.{copied_of, written_in, kept_run}
-use Rattle.outbox.specs.Tails.{tails_in, marked, mark_of}
+use Rattle.outbox.specs.Tails.{IsSpelt, tails_in, marked, mark_of}
 use Rattle.outbox.specs.Views.{Written, Backlog, Tail, size_of, tail_bytes, run_text, message_run, has_room_for_all, spelt_entry}
 use Rattle.outbox.specs.declared.entries.Mode.TheVariants.{Plain}
 use Rattle.outbox.specs.declared.kept.Kept.{Kept}
@@ -74,6 +74,15 @@ run_text_length sub head (tail ∷ tails) =
     length-append (head ++ tail.bytes) (run_text head tails) in
     let size = size_cons (spelt_entry tail.id sub Plain (head ++ tail.bytes)) (message_run sub head tails) in
     omega (arith, below, both, size)
+
+-- what is spelt takes up no more than the run
+pub spelt_fits : (head whole : List ℕ) (tails : List Tail) → IsSpelt head whole tails
+    → length whole ≤ length head * length tails + tail_bytes tails
+spelt_fits head whole tails (inl none) = let empty = ap length none in omega (arith, empty)
+spelt_fits head whole tails (inr all) =
+    let no_one : SubId = record { shard = 0; serial = 0 } in
+    let size = ap length all ∙ run_text_length no_one head tails ∙ run_size no_one head tails in
+    omega (arith, size)
 
 -- ---- how the tails are kept
 

@@ -1,7 +1,7 @@
 //! What the messages of a run have of their own.
 
 ghost use Rattle.std.specs.Prelude.{◌≡◌, ◌+◌, ◌*◌, ◌<◌, ◌≤◌, ◌^◌, ◌++◌, ◌∷◌, ◌==◌, nat_le, [], length, map, vec_len, vec_capacity, OnOk, OnErr, SomeIff};
-ghost use Rattle.outbox.specs.Tails.{mark_of};
+ghost use Rattle.outbox.specs.Tails.{IsSpelt, mark_of, marked, tails_in};
 ghost use Rattle.outbox.specs.Views.{tail_bytes, run_text};
 
 use line_fields::append_reserved;
@@ -16,6 +16,21 @@ pub(crate) fn is_within(there: usize, more: usize, most: usize) -> bool
     more <= most && there <= most - more
 }
 
+/// How many bytes a buffer that is kept for the next run has room for at most. A run of 128 messages of 1,024 bytes needs about half of it.
+const KEPT_BYTES: usize = 262_144;
+
+/// Empties a buffer, and gives its memory back where it has much.
+fn let_go(bytes: &mut Vec<u8>)
+    ensures items { bytes.new.items ≡ [] }
+    ensures few { vec_capacity bytes.new ≤ KEPT_BYTES }
+{
+    if bytes.capacity() > KEPT_BYTES {
+        *bytes = Vec::new(*bytes.allocator());
+    } else {
+        bytes.clear();
+    }
+}
+
 /// Which publication a tail belongs to, and how many bytes it has.
 #[derive(Clone, Copy)]
 pub(crate) struct TailMark {
@@ -27,7 +42,7 @@ pub(crate) struct TailMark {
 /// publication and its tail, the bytes behind the id of the subscription. Before a tail stands the head, which differs from
 /// subscription to subscription: [`crate::Outbox::stage_run`] puts the two together.
 ///
-/// The memory is used again for the next run.
+/// The memory is used again for the next run, unless it is much.
 ///
 /// Seen as the list of the tails.
 #[derive(Drop)]
@@ -35,18 +50,60 @@ pub struct RunTails {
     marks: Vec<TailMark>,
     /// The bytes of all tails, one behind another.
     text: Vec<u8>,
+    /// The head that was named last.
+    head: Vec<u8>,
+    /// The messages of the run with that head, where it was named twice.
+    whole: Vec<u8>,
 }
 
 impl Model for RunTails {
     ghost use Rattle.std.specs.Prelude.{◌≡◌, List, length};
     ghost use Rattle.outbox.specs.Views.{Tail};
-    ghost use Rattle.outbox.specs.Tails.{tails_in, marked};
+    ghost use Rattle.outbox.specs.Tails.{IsSpelt, tails_in, marked};
 
     ghost Value = { List Tail };
 
     ghost view = { λ tails. tails_in tails.marks.items tails.text.items };
 
-    ghost invariant = { λ tails. marked tails.marks.items ≡ length tails.text.items };
+    ghost invariant = { λ tails.
+        (marked tails.marks.items ≡ length tails.text.items)
+        × IsSpelt tails.head.items tails.whole.items
+        (tails_in tails.marks.items tails.text.items) };
+}
+
+/// Puts the messages of a run behind the bytes that are there, each with this head, where there is room for all of them.
+fn append_each(marks: &[TailMark], text: &[u8], head: &[u8], out: &mut Vec<u8>)
+    requires whole { marked marks.now ≡ length text.now }
+    requires room { vec_len out.old
+        + (length head.now * length marks.now + length text.now)
+        ≤ vec_capacity out.old }
+    ensures { out.new.items ≡ out.old.items ++ run_text head.now (tails_in marks.now text.now) }
+{
+    let mut start = 0;
+    for mark in marks {
+        let end = start + mark.len;
+        append_reserved(out, head);
+        append_reserved(out, &text[start..end]);
+        start = end;
+    }
+}
+
+/// Spells the messages of a run with this head. For want of memory there are none.
+fn spell(marks: &[TailMark], text: &[u8], head: &[u8], whole: &mut Vec<u8>)
+    requires tails { marked marks.now ≡ length text.now }
+    requires none { whole.old.items ≡ [] }
+    ensures { IsSpelt head.now whole.new.items (tails_in marks.now text.now) }
+{
+    let Some(heads) = head.len().checked_mul(marks.len()) else {
+        return;
+    };
+    let Some(len) = heads.checked_add(text.len()) else {
+        return;
+    };
+    if whole.reserve(len).is_err() {
+        return;
+    }
+    append_each(marks, text, head, whole);
 }
 
 impl RunTails {
@@ -57,15 +114,19 @@ impl RunTails {
         RunTails {
             marks: Vec::new(alloc),
             text: Vec::new(alloc),
+            head: Vec::new(alloc),
+            whole: Vec::new(alloc),
         }
     }
 
-    /// Drops all tails.
+    /// Drops all tails. The memory of many bytes is given back.
     pub fn clear(&mut self)
         ensures { self.new ≡ [] }
     {
         self.marks.clear();
-        self.text.clear();
+        let_go(&mut self.text);
+        self.head.clear();
+        let_go(&mut self.whole);
     }
 
     /// Puts the tail of a message of this publication behind. Want of memory leaves all as it was.
@@ -76,6 +137,7 @@ impl RunTails {
     {
         self.marks.reserve(1)?;
         self.text.extend_from_slice(tail)?;
+        self.whole.clear();
         self.marks.push_reserved(TailMark {
             id,
             len: tail.len(),
@@ -128,18 +190,34 @@ impl RunTails {
         }
     }
 
+    /// The run is put with this head next. Where that is so a second time, its messages are spelt as they are with it, and then put in one
+    /// piece, as long as no other head is named. For want of memory they are not.
+    pub fn name_head(&mut self, head: &[u8])
+        ensures { self.new ≡ self.old }
+    {
+        if self.head.as_slice() != head {
+            self.whole.clear();
+            self.head.clear();
+            if self.head.extend_from_slice(head).is_err() {
+                self.head.clear();
+            }
+            return;
+        }
+        if self.whole.is_empty() {
+            spell(&self.marks, &self.text, head, &mut self.whole);
+        }
+    }
+
     /// Puts the messages of the run behind the bytes that are there, each with this head, where there is room for all of them.
     pub(crate) fn append_run(&self, head: &[u8], out: &mut Vec<u8>)
         requires { vec_len out.old + (length head.now * length self.now + tail_bytes self.now)
             ≤ vec_capacity out.old }
         ensures { out.new.items ≡ out.old.items ++ run_text head.now self.now }
     {
-        let mut start = 0;
-        for mark in &self.marks {
-            let end = start + mark.len;
-            append_reserved(out, head);
-            append_reserved(out, &self.text[start..end]);
-            start = end;
+        if !self.whole.is_empty() && self.head.as_slice() == head {
+            append_reserved(out, &self.whole);
+            return;
         }
+        append_each(&self.marks, &self.text, head, out);
     }
 }

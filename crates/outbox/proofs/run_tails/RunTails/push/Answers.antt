@@ -13,5 +13,5 @@ returns-clause-ok c =
     ap (λ (ms : List TailMark). tails_in ms c.extend_from_slice.new.self.items)
     (c.push_reserved.ensures.items ∙ ap (λ (ms : List TailMark). ms ++ mark ∷ []) c.reserve.ensures.items)
     ∙ ap (tails_in (marks ++ mark ∷ [])) c.in_ok-extend_from_slice.ensures.items
-    ∙ tails_more marks c.self.inside.text.items c.args.tail.now c.args.id c.self.invariant
+    ∙ tails_more marks c.self.inside.text.items c.args.tail.now c.args.id c.self.invariant.0
     ∙ ap (λ (tails : List Tail). tails ++ tail ∷ []) c.self.view_is

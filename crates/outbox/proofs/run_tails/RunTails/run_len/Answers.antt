@@ -28,7 +28,7 @@ returns c =
     sym (ap (λ (l : List Tail). length l) c.self.view_is) ∙ tails_length marks.items text.items
     ∙ sym (c.len.ensures ∙ marks.ok.0) in
     let bytes : tail_bytes tails ≡ c.len-2.result =
-    sym (ap tail_bytes c.self.view_is) ∙ tails_size marks.items text.items c.self.invariant ∙ c.self.invariant
+    sym (ap tail_bytes c.self.view_is) ∙ tails_size marks.items text.items c.self.invariant.0 ∙ c.self.invariant.0
     ∙ sym (c.len-2.ensures ∙ text.ok.0) in
     let heads : c.args.head_len * length tails ≡ product =
     ap (λ n. c.args.head_len * n) count ∙ sym c.in_ok-checked_mul.ensures.1 in

@@ -2,7 +2,7 @@ use Rattle.std.proofs.Common.{◌≡◌, ℕ, ◌+◌, ◌*◌, ◌≤◌, List,
 use Rattle.outbox.specs.Tails.{tails_in, marked}
 use Rattle.outbox.specs.Views.{run_text}
 use Rattle.outbox.specs.declared.run_tails.TailMark.{TailMark}
-use Rattle.outbox.proofs.run_tails.RunTails.append_run.Given as goal
+use Rattle.outbox.proofs.run_tails.append_each.Given as goal
 
 -- the marks that are left are of the bytes that are left, there is room for their messages, and with these the text
 -- comes to the whole
@@ -13,7 +13,5 @@ pub record IsGoingOn (marks : List TailMark) (text head out all : List ℕ) (sta
 
 abbrev pub invariant-loop-mark : goal.invariant-loop-mark
 invariant-loop-mark l =
-    let marks = l.self-inside.marks.items in
-    let text = l.self-inside.text.items in
-    IsGoingOn (drop l.mark-index marks) text l.head l.out.items
-    (l.fn.out.items ++ run_text l.head (tails_in marks text)) l.start (vec_len l.out) (vec_capacity l.out)
+    IsGoingOn (drop l.mark-index l.marks) l.text l.head l.out.items
+    (l.fn.out.items ++ run_text l.head (tails_in l.marks l.text)) l.start (vec_len l.out) (vec_capacity l.out)
