@@ -10,6 +10,7 @@ ghost use Rattle.hub_core.specs.Events.{Receive, Up, Cut, TakeFrom, IsUp, WasCut
 ghost use Rattle.hub_core.specs.Steps.{IsMeeting};
 ghost use Rattle.hub_core.specs.Hubs.{hub_at_start, refusal, DoesStep};
 ghost use Rattle.hub_core.specs.declared.faults.HubFault.TheVariants.{Spent, TooManyQueues};
+ghost use Rattle.hub_core.specs.Plain.{HasTurnsFor};
 ghost use Rattle.hub_core.specs.Publishing.{busy_fault, next_id as id_of_next, publish_refusal, frames_of};
 ghost use Rattle.hub_core.specs.Receiving.{receive_refusal, origin_fault as refused_of_origin, after_receive, has_message};
 ghost use Rattle.hub_core.specs.Calls.{job_of, IsTaken, answer_of, IsPlanned, after_frames};
@@ -346,6 +347,18 @@ impl Hub {
         self.counts.learn();
         put_all(&self.server, &mut self.peers, frames);
     }
+
+    /// The same of a plain publication, which owes a job to the server's own shards and nothing else. Required: it is not refused. Nothing
+    /// is learnt of who wants it, and no memory is taken.
+    #[inline(always)]
+    pub fn commit_plain(&mut self)
+        requires { IsPlanned self.old.server self.old.state [] }
+        ensures { self.new
+            ≡ record self.old { state = after_frames self.old.server self.old.state [] } }
+    {
+        self.issued = self.issued.next().unwrap();
+        self.published += 1;
+    }
 }
 
 /// How many of the peers are up.
@@ -450,6 +463,25 @@ pub(crate) fn busy(issued: Turn, shards: u64, finished: &Finished) -> Option<Bus
     busy_among(issued, &finished.as_slice()[..shards as usize])
 }
 
+/// How many turns can be issued behind this one before the shard that has finished the other one is a window behind.
+fn turns_before_busy(issued: Turn, finished: Turn) -> u64
+    ensures { (count : ℕ) → count < result → is_behind (issued + count) finished ≡ false }
+{
+    (finished.get() + WINDOW).saturating_sub(issued.get())
+}
+
+/// The same for all shards that these turns are of, and no more than `most`.
+fn turns_among(issued: Turn, finished: &[Turn], most: u64) -> u64
+    ensures most { result ≤ most }
+    ensures free { (count : ℕ) → count < result → busy_of (issued + count) finished.now ≡ None }
+{
+    let mut free = most;
+    for last in finished {
+        free = free.min(turns_before_busy(issued, *last));
+    }
+    free
+}
+
 impl Hub {
     /// The turn of the next job. Refused: 60 where a shard is a window behind, 62 where the last number of
     /// a publication or the last turn was used. Takes no memory.
@@ -468,6 +500,23 @@ impl Hub {
             Some(turn) => Ok(turn),
             None => Err(HubFault::Spent),
         }
+    }
+
+    /// The last turn that was issued.
+    pub fn issued(&self) -> Turn
+        ensures { result ≡ self.now.state.issued }
+    {
+        self.issued
+    }
+
+    /// How many plain publications can be issued one after the other, by these loads: no shard is a window behind then, and neither the
+    /// numbers of publications nor the turns are used up.
+    pub fn turns_free(&self, finished: &Finished) -> u64
+        ensures { HasTurnsFor self.now.server self.now.state finished.now result }
+    {
+        let numbers = (MAX_COUNTER - self.published).min(MAX_COUNTER - self.issued.get());
+        let shards = self.server.shards() as usize;
+        turns_among(self.issued, &finished.as_slice()[..shards], numbers)
     }
 
     /// What a publication owes that has this turn and these queue names, if any, each of which the server at its place
@@ -648,7 +697,7 @@ impl Hub {
     }
 
     /// Whether some queue name wants the subject.
-    fn is_named(&self, subject: &Subject) -> bool
+    pub(crate) fn is_named(&self, subject: &Subject) -> bool
         ensures { result ≡ false → wanted_names self.now.server self.now.state subject.now ≡ [] }
     {
         is_name_wanted(&self.server, &self.counts, &self.peers, subject)

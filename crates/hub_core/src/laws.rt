@@ -1,6 +1,7 @@
 //! What each event of a hub is in the cluster law. The calls do nothing: their contracts are the laws.
 
 ghost use Rattle.hub_core.specs.AsLaw.{PublishesInLaw, ReceivesInLaw, MeetsInLaw, AnnouncesInLaw, DrainsInLaw, CutsUnseen, TakesUnseen};
+ghost use Rattle.hub_core.specs.Plain.{PlainJobsFollow};
 ghost use Rattle.hub_core.specs.Steps.{StaysSound};
 ghost use Rattle.hub_core.specs.Wanted.{NamesAreWanted};
 
@@ -48,4 +49,10 @@ pub fn sound_hubs_stay_sound()
 /// match, of its own counts or of what an eligible peer has told.
 pub fn queue_names_are_wanted()
     ensures { NamesAreWanted }
+{}
+
+/// Where no queue name wants a subject and no eligible peer has a plain key that matches it, a publication on it is refused just
+/// where no turn is issued, and owes a job without queue names and no frame; and so does the next one behind it.
+pub fn plain_jobs_follow()
+    ensures { PlainJobsFollow }
 {}

@@ -177,8 +177,8 @@ impl OwnInterest {
         self.is_queued
     }
 
-    /// The queue names that want the subject, where they are in mind. Where they are not, it notes that they were asked for.
-    pub fn names_in_mind(&self, subject: &Subject) -> Option<&QueueNames>
+    /// The queue names that want the subject, where they are in mind.
+    pub fn names_known(&self, subject: &Subject) -> Option<&QueueNames>
         ensures { IfSome result (λ names. AreInMind self.now subject.now names.now) }
     {
         let _valid = self.counts.keys();
@@ -187,11 +187,19 @@ impl OwnInterest {
                 let _ordered = memo.names.as_slice();
                 Some(&memo.names)
             }
-            _ => {
-                self.note(subject);
-                None
-            }
+            _ => None,
         }
+    }
+
+    /// The queue names that want the subject, where they are in mind. Where they are not, it notes that they were asked for.
+    pub fn names_in_mind(&self, subject: &Subject) -> Option<&QueueNames>
+        ensures { IfSome result (λ names. AreInMind self.now subject.now names.now) }
+    {
+        let known = self.names_known(subject);
+        if known.is_none() {
+            self.note(subject);
+        }
+        known
     }
 
     /// Counts deltas: [`Local::commit`]. What was in mind is forgotten.

@@ -1,5 +1,5 @@
 -- What has become of a frame of a peer, by what it tells.
-use Rattle.std.proofs.Common.{◌≡◌, ℕ, ◌+◌, true, false, true≢false, List, replicate, Some, sym, ap, ◌∙◌, subst}
+use Rattle.std.proofs.Common.{◌≡◌, ℕ, ◌+◌, false, true≢false, List, replicate, Some, sym, ap, ◌∙◌, subst}
 use Rattle.std.proofs.lemmas.Option.{none-some, same_Some}
 use Rattle.subj.specs.declared.jobs.Job.{Job}
 use Rattle.claim_race.specs.Race.{RaceState, IsIssued}

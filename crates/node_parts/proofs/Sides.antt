@@ -8,9 +8,8 @@ use Rattle.interest.specs.declared.changes.Change.{Change}
 use Rattle.subj.specs.declared.keys.Delta.{Delta}
 use Rattle.route_session.specs.Calls as calls
 use Rattle.route_session.specs.Events as of_sessions
-use Rattle.route_session.specs.State as sessions
 use Rattle.route_session.specs.Steps.{session_refusal, session_answer, session_after, without_peers}
-use Rattle.node_parts.specs.Sides.{HubWithSessions, Event, ByHub, BySessions, Answer, OfHub, OfSessions, IsAskedSessions, IsDone, hub_with}
+use Rattle.node_parts.specs.Sides.{HubWithSessions, ByHub, BySessions, OfHub, OfSessions, IsAskedSessions, IsDone, hub_with}
 
 -- the hub with the sessions
 abbrev pub side_of : Hub → calls.Served → HubWithSessions

@@ -33,14 +33,14 @@ use Rattle.hub_core.proofs.Neighbours.Sending.{not_too_many}
 abbrev Alone : ServerIdentity → ℕ → List Peer → Type 0
 Alone server q peers = is_alone_from server q peers ≡ true
 
-first : (server : ServerIdentity) (q : ℕ) (peer : Peer) (peers : List Peer)
+pub first : (server : ServerIdentity) (q : ℕ) (peer : Peer) (peers : List Peer)
     → Alone server q (peer ∷ peers)
     → is_eligible server q peer ≡ false
 first server q peer peers alone =
     not_true (is_eligible server q peer)
     (and_true (not (is_eligible server q peer)) (is_alone_from server (suc q) peers) alone).0
 
-others : (server : ServerIdentity) (q : ℕ) (peer : Peer) (peers : List Peer)
+pub others : (server : ServerIdentity) (q : ℕ) (peer : Peer) (peers : List Peer)
     → Alone server q (peer ∷ peers)
     → Alone server (suc q) peers
 others server q peer peers alone =
@@ -48,7 +48,7 @@ others server q peer peers alone =
 
 -- ---- no peer adds a name, and none is owed a frame
 
-names_alone : (server : ServerIdentity) (subject : List ℕ) (q : ℕ) (peers : List Peer) (names : List (List ℕ))
+pub names_alone : (server : ServerIdentity) (subject : List ℕ) (q : ℕ) (peers : List Peer) (names : List (List ℕ))
     → Alone server q peers
     → names_from server subject q peers names ≡ names
 names_alone server subject q [] names alone = refl

@@ -1,10 +1,21 @@
 -- The first shard that is a window behind.
-use Rattle.std.proofs.Common.{◌≡◌, ℕ, ◌+◌, ◌<◌, List, length, get_or, Option, Some, None, ap, sym, ◌∙◌}
-use Rattle.std.specs.Prelude.{position}
-use Rattle.std.specs.Option.{option_map}
+use Rattle.std.proofs.Common.{◌≡◌, ℕ, ◌+◌, ◌<◌, Bool, false, cond, nat_le, ◌||◌, List, [], ◌∷◌, length, take, get_or, Option, Some, None, All, refl, ap, sym, ◌∙◌, arith}
+use Rattle.std.specs.Prelude.{position, if◌then◌else◌}
+use Rattle.std.specs.List.{position_from}
+use Rattle.std.specs.Option.{option_map, option_or}
+use Rattle.std.proofs.lemmas.Bool.Decides.{nat_tests}
+use Rattle.std.proofs.lemmas.Iterator.Adapters.{position_from-zero}
+use Rattle.std.proofs.lemmas.List.Elements.{All-head, All-tail}
 use Rattle.std.proofs.lemmas.List.{get_or_default}
 use Rattle.subj.specs.declared.turns.Busy.{Busy}
+use Rattle.subj.specs.declared.limits.TheConstants.{MAX_COUNTER}
+use Rattle.subj.specs.Servers.{ServerIdentity}
 use Rattle.claim_race.specs.Race.{busy_of, busy_at, is_behind}
+use Rattle.hub_core.specs.declared.faults.HubFault.{HubFault}
+use Rattle.hub_core.specs.declared.faults.HubFault.TheVariants.{Busy as BusyFault, Spent}
+use Rattle.hub_core.specs.State.{State}
+use Rattle.hub_core.specs.Chosen.{turn_refusal}
+use Rattle.hub_core.specs.Plain.{behind_plain}
 
 pub no_busy : (issued : ℕ) (finished : List ℕ)
     → position (is_behind issued) finished ≡ None
@@ -22,3 +33,38 @@ some_busy issued finished place last some at within =
     ap (option_map (busy_at finished)) some
     ∙ ap (λ (n : ℕ). let busy : Option Busy = Some (record { shard = place + 1; finished = n }) in busy)
     (sym (at ∙ get_or_default finished place last 0 within))
+
+-- ---- none is
+
+none_from : (test : ℕ → Bool) (place : ℕ) (xs : List ℕ)
+    → All (λ x. test x ≡ false) xs
+    → position_from test place xs ≡ None
+none_from test place [] all = refl
+none_from test place (x ∷ xs) all =
+    ap (λ b. cond b (Some place) (position_from test (place + 1) xs)) (All-head (λ x. test x ≡ false) x xs all)
+    ∙ none_from test (place + 1) xs (All-tail (λ x. test x ≡ false) x xs all)
+
+pub none_behind_all : (issued : ℕ) (finished : List ℕ)
+    → All (λ last. is_behind issued last ≡ false) finished
+    → busy_of issued finished ≡ None
+unfolding busy_of
+none_behind_all issued finished all =
+    ap (option_map (busy_at finished))
+    (position_from-zero (is_behind issued) finished ∙ none_from (is_behind issued) 0 finished all)
+
+-- there is a turn behind so many plain publications
+pub turn_behind_plain : (server : ServerIdentity) (hub : State) (finished : List ℕ) (count : ℕ)
+    → busy_of (hub.issued + count) (take server.shards finished) ≡ None
+    → hub.published + count < MAX_COUNTER
+    → hub.issued + count < MAX_COUNTER
+    → turn_refusal server (behind_plain count hub) finished ≡ None
+turn_behind_plain server hub finished count free number turn =
+    (λ k.
+    option_or (option_map BusyFault (free k))
+    (if numbers k || turns k then (let why : Option HubFault = Some Spent in why) else None))
+  where
+    numbers : nat_le MAX_COUNTER (hub.published + count) ≡ false
+    numbers = grind (arith, nat_tests)
+
+    turns : nat_le MAX_COUNTER (hub.issued + count) ≡ false
+    turns = grind (arith, nat_tests)

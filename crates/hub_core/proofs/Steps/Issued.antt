@@ -28,7 +28,7 @@ rewritten len new old same whole =
     ∙ ap (take len) (append-nil new)
     ∙ take_all len new (omega arith)
 
-next_turn_is : (b : Bool) (x y : ℕ) → cond b None (Some x) ≡ Some y → x ≡ y
+pub next_turn_is : (b : Bool) (x y : ℕ) → cond b None (Some x) ≡ Some y → x ≡ y
 next_turn_is true x y e = cc
 next_turn_is false x y e = same_Some x y e
 

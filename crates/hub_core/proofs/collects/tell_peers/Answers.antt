@@ -1,4 +1,4 @@
-use Rattle.std.proofs.Common.{◌≡◌, List, map, length, sym, ap, ◌∙◌, subst}
+use Rattle.std.proofs.Common.{List, length, sym, ap, ◌∙◌, subst}
 use Rattle.hub_core.specs.State.{Peer}
 use Rattle.hub_core.specs.Telling.{without_slow}
 use Rattle.hub_core.specs.Publishing.{with_frames}
