@@ -1,3 +1,5 @@
 mod Bodies
 mod Texts
+mod Runs
 mod Places
+mod Ranges

@@ -1,5 +1,5 @@
 -- How the jobs of a block are kept: the parts of small messages in one text, larger messages apart.
-use Rattle.std.specs.Prelude.{◌≡◌, ◌<◌, ◌≤◌, ℕ, ◌+◌, List, [], ◌∷◌, length, All, Option, Some, None}
+use Rattle.std.specs.Prelude.{◌≡◌, ◌<◌, ◌≤◌, ℕ, ◌+◌, ◌-◌, true, List, [], ◌∷◌, length, slice_get, All, Option, Some, None}
 use Rattle.subj.specs.Messages.{Content, body_of}
 use Rattle.subj.specs.declared.jobs.Job.{Job}
 use Rattle.subj.specs.declared.limits.TheConstants.{MAX_COUNTER}
@@ -7,8 +7,10 @@ use Rattle.job_block.specs.declared.kept.KeptJob.{KeptJob}
 use Rattle.job_block.specs.declared.kept.KeptMessage.{KeptMessage}
 use Rattle.job_block.specs.declared.kept.KeptMessage.TheVariants.{InText, Shared}
 use Rattle.job_block.specs.declared.kept.TheConstants.{SHARED_BYTES}
+use Rattle.job_block.specs.Blocks.{GoesOnAt}
 use Rattle.job_block.specs.Publications.{IsPublishable}
-use Rattle.job_block.specs.Spans.{AreSpans, content_in}
+use Rattle.job_block.specs.declared.spans.Span.{Span}
+use Rattle.job_block.specs.Spans.{AreSpans, IsPart, content_in}
 
 abbrev pub message_in : List ℕ → KeptMessage → Content
 message_in text (InText spans) = content_in text spans
@@ -19,10 +21,10 @@ pub record IsSmall (content : Content) : Type 0 where
   pub publishable : IsPublishable content
   pub small : length (body_of content) < SHARED_BYTES
 
--- small ones stand in the text, larger ones apart
+-- only small ones stand in the text
 abbrev pub IsKeptMessage : List ℕ → KeptMessage → Type 0
 IsKeptMessage text (InText spans) = AreSpans text spans × IsSmall (content_in text spans)
-IsKeptMessage text (Shared content) = SHARED_BYTES ≤ length (body_of content)
+IsKeptMessage text (Shared content) = Unit {0}
 
 -- the message is kept so
 pub record IsKeptAs (text : List ℕ) (message : KeptMessage) (content : Content) : Type 0 where
@@ -52,7 +54,18 @@ jobs_in text turn (kept ∷ others) = job_in text turn kept ∷ jobs_in text (tu
 abbrev pub AreKept : List ℕ → List KeptJob → Type 0
 AreKept text kept = All (λ job. IsKeptMessage text job.message) kept
 
+-- there is a last one, and its subject stands there
+pub record IsOfLast (text : List ℕ) (kept : List KeptJob) (span : Span) : Type 0 where
+  pub last : KeptJob
+  pub stands : slice_get kept (length kept - 1) ≡ Some last
+  pub subject : IsPart text span (message_in text last.message).subject
+
 -- what the fields of a block keep
 pub record IsBlock (text : List ℕ) (first_turn : ℕ) (kept : List KeptJob) : Type 0 where
   pub each : AreKept text kept
+  -- of each that is marked so a run goes on with it
+  pub runs : (place : ℕ) (job : KeptJob)
+      → slice_get kept place ≡ Some job
+      → job.goes_on ≡ true
+      → GoesOnAt (jobs_in text first_turn kept) place
   pub turns : first_turn + length kept ≤ MAX_COUNTER + 1

@@ -1,9 +1,11 @@
 -- The content of a publication by its parts, and which content may be put into a block.
-use Rattle.std.specs.Prelude.{◌≡◌, ◌≤◌, true, length, None, IfSome}
+use Rattle.std.specs.Prelude.{◌≡◌, ◌≤◌, ℕ, Bool, true, List, length, Option, None, IfSome}
 use Rattle.std.specs.Option.{option_copied}
 use Rattle.subj.specs.Messages.{Content, are_headers, body_of}
 use Rattle.subj.specs.Names.{subject_fault}
 use Rattle.subj.specs.declared.limits.TheConstants.{MAX_PAYLOAD}
+use Rattle.subj.specs.declared.messages.Pub.{Pub}
+use Rattle.job_block.specs.declared.kept.TheConstants.{SHORT_BYTES}
 use Rattle.job_block.specs.declared.publications.PublicationParts.{PublicationParts}
 
 abbrev pub content_by : PublicationParts → Content
@@ -21,3 +23,15 @@ pub record IsPublishable (content : Content) : Type 0 where
   pub reply : IfSome content.reply (λ reply. subject_fault reply ≡ None)
   pub headers : are_headers content.headers ≡ true
   pub within : length (body_of content) ≤ MAX_PAYLOAD
+
+-- it has no header block, and a short payload (profile)
+pub record IsShort (content : Content) : Type 0 where
+  pub plain : content.headers ≡ None
+  pub short : length content.payload ≤ SHORT_BYTES
+
+-- a publication without a header block, by its names and its payload
+abbrev pub lent_pub : List ℕ → Option (List ℕ) → List ℕ → Bool → Pub
+lent_pub subject reply payload echo = record {
+  message = record { subject = subject; reply = reply; headers = None; payload = payload };
+  echo = echo;
+}

@@ -1,37 +1,23 @@
 //! A block of jobs.
 
-ghost use Rattle.std.specs.Prelude.{◌≡◌, ◌+◌, ◌-◌, ◌*◌, ◌^◌, ◌<◌, ◌≤◌, ◌==◌, [], length, min, slice_get, vec_len, vec_capacity, IfOk, IfSome, OnOk, OnErr, if◌then◌else◌};
-ghost use Rattle.std.specs.Option.{option_copied};
+ghost use Rattle.std.specs.Prelude.{◌≡◌, ◌+◌, ◌-◌, ◌*◌, ◌/◌, ◌^◌, ◌<◌, ◌≤◌, ◌==◌, ◌++◌, ◌∷◌, [], length, true, min, slice_get, vec_len, vec_capacity, IfOk, IfSome, OnOk, OnErr, Some, if◌then◌else◌};
 ghost use Rattle.subj.specs.Numbers.{turn_of};
-ghost use Rattle.subj.specs.QueueNames.{are_queue_names};
-ghost use Rattle.job_block.specs.Publications.{IsPublishable, content_by};
-ghost use Rattle.job_block.specs.Blocks.{AreNumberedFrom, IsLeft, IsPushed, head_of, kept_memory, large_message, repeats_subject as has_subject_before, turn_behind};
+ghost use Rattle.job_block.specs.Publications.{IsPublishable, IsShort, content_by};
+ghost use Rattle.job_block.specs.Blocks.{AreNumberedFrom, GoesOnAt, IsLast, IsLeft, IsPushed, job_of, kept_memory, turn_behind};
 
-use crate::kept::{KeptJob, KeptMessage, SHARED_BYTES, have_one_subject, keep};
+use crate::kept::{KeptJob, KeptMessage, Origin, keep, last_span, last_subject};
+use crate::lent_jobs::LentJob;
 use crate::publications::PublicationParts;
 use std::alloc::{AllocError, Global};
 use std::marker::Model;
 use std::mem::size_of;
-use subj::{ConnId, Job, MAX_COUNTER, Message, PubId, QueueNames, Turn};
+use subj::{MAX_COUNTER, Message, QueueNames, Turn};
 
 /// How many bytes of memory the place of a job takes, the bytes of its message apart.
 pub const JOB_BYTES: usize = size_of::<KeptJob>();
 
 /// The most bytes of memory that a block keeps for other jobs. (Profile.)
 pub const KEPT_BYTES: usize = 65_536;
-
-/// What a job has beside its message and its queue names.
-#[derive(Clone, Copy)]
-pub struct JobHead {
-    /// The place of the job in the order of the server's jobs.
-    pub turn: Turn,
-    /// Which publication it is.
-    pub id: PubId,
-    /// The connection that published it, where that is one of this server.
-    pub publisher: Option<ConnId>,
-    /// Whether the publisher's own subscriptions may get it.
-    pub echo: bool,
-}
 
 /// The turn so far behind a turn. Required: it is one.
 fn turn_after(first: Turn, count: usize) -> Turn
@@ -56,14 +42,65 @@ fn empty<T: Drop>(list: &mut Vec<T>, keeps: bool)
     }
 }
 
-/// Jobs of turns that follow one another, as of the publications that came in one read. The bytes of small messages stand one behind
-/// another in one text, where a subject that comes again at once stands once; a message of [`SHARED_BYTES`] and more stands apart, and
-/// is shared. So a small job takes no memory of its own, and its parts are seen without a copy.
+/// Puts a job behind, for which there is room.
+#[inline(always)]
+fn put_job(
+    kept: &mut Vec<KeptJob>,
+    origin: Origin,
+    queues: QueueNames,
+    goes_on: bool,
+    message: KeptMessage,
+)
+    requires { vec_len kept.old < vec_capacity kept.old }
+    ensures { kept.new.items
+        ≡ kept.old.items
+        ++ record {
+          id = origin.id;
+          publisher = origin.publisher;
+          echo = origin.echo;
+          goes_on = goes_on;
+          queues = queues;
+          message = message;
+        }
+        ∷ [] }
+{
+    let Origin {
+        id,
+        publisher,
+        echo,
+    } = origin;
+    kept.push_reserved(KeptJob {
+        id,
+        publisher,
+        echo,
+        goes_on,
+        queues,
+        message,
+    });
+}
+
+/// No items, with memory for so many, where there is so much.
+fn with_room<T: Drop>(alloc: Global, room: usize) -> Vec<T>
+    ensures items { result.items ≡ [] }
+    ensures capacity { vec_capacity result ≤ room }
+{
+    match Vec::with_capacity(alloc, room) {
+        Ok(list) => list,
+        Err(_) => Vec::new(alloc),
+    }
+}
+
+/// Jobs of turns that follow one another, as of the publications that came in one read. The bytes of small publications stand one
+/// behind another in one text, where a subject that comes again at once stands once. A publication of [`SHARED_BYTES`] and more stands
+/// apart, as a message that all share, and so does each job that comes with its message. So the job of a small publication takes no
+/// memory of its own, and its parts are seen without a copy.
 ///
 /// The memory is used again for other jobs.
 ///
 /// Seen as the turn of its first job, the list of its jobs, and how many bytes of memory it holds: for the places of jobs and for the
 /// text. What stands apart is not counted, nor are queue names. (Profile.)
+///
+/// [`SHARED_BYTES`]: crate::SHARED_BYTES
 #[derive(Drop)]
 pub struct JobBlock {
     /// The bytes of small messages.
@@ -101,6 +138,32 @@ impl JobBlock {
             kept: Vec::with_capacity(alloc, room)?,
             first_turn,
         })
+    }
+
+    /// No jobs, and no memory; the first will have this turn.
+    pub fn empty(alloc: Global, first_turn: Turn) -> JobBlock
+        ensures { result ≡ record { first_turn = first_turn; jobs = []; memory = 0 } }
+    {
+        JobBlock {
+            text: Vec::new(alloc),
+            kept: Vec::new(alloc),
+            first_turn,
+        }
+    }
+
+    /// No jobs, with memory for as many as there are here, where there is so much: for at most half of [`KEPT_BYTES`] of text.
+    pub fn empty_like(&self) -> JobBlock
+        ensures first_turn { result.first_turn ≡ self.now.first_turn }
+        ensures jobs { result.jobs ≡ [] }
+        ensures memory { result.memory ≤ KEPT_BYTES / 2 + length self.now.jobs * JOB_BYTES }
+    {
+        let alloc = *self.text.allocator();
+        let text_room = self.text.len().min(KEPT_BYTES / 2);
+        JobBlock {
+            text: with_room(alloc, text_room),
+            kept: with_room(alloc, self.kept.len()),
+            first_turn: self.first_turn,
+        }
     }
 
     /// Drops all jobs; the first of others will have this turn. The memory is kept where it is at most [`KEPT_BYTES`], and else all of
@@ -157,154 +220,125 @@ impl JobBlock {
         Turn::new(self.first_turn.get() + self.kept.len() as u64)
     }
 
-    /// Puts the job of a publication behind, with the turn behind the last one's. Small messages are copied; of one that has
-    /// [`SHARED_BYTES`] or more, header block and payload together, a copy is made that all share. Want of memory leaves all as it was.
-    /// Required: the publication can be published, and there is a turn ([`JobBlock::next_turn`]).
+    /// Puts the job of a publication behind, with the turn behind the last one's. A small publication is copied; of one that has
+    /// [`SHARED_BYTES`](crate::SHARED_BYTES) or more, header block and payload together, a message is made that all share. Want of memory
+    /// leaves all as it was. Required: the publication can be published, and there is a turn ([`JobBlock::next_turn`]).
     pub fn push(
         &mut self,
         publication: &PublicationParts<'_>,
-        id: PubId,
-        publisher: Option<ConnId>,
-        echo: bool,
+        origin: Origin,
         queues: QueueNames,
     ) -> Result<(), AllocError>
         requires valid { IsPublishable (content_by publication.now) }
         requires turn { turn_behind self.old ≤ MAX_COUNTER }
-        ensures ok { OnOk result (IsPushed (record {
-          turn = turn_behind self.old;
-          id = id;
-          message = content_by publication.now;
-          publisher = publisher;
-          echo = echo;
-          queues = queues;
-        }) self.old self.new) }
+        ensures ok { OnOk result
+            (IsPushed
+            (job_of origin (turn_behind self.old) (content_by publication.now) queues) self.old
+            self.new) }
         ensures err { OnErr result (IsLeft self.old self.new) }
     {
         self.kept.reserve(1)?;
-        let message = keep(&mut self.text, self.kept.as_slice(), publication)?;
-        self.kept.push_reserved(KeptJob {
-            id,
-            publisher,
-            echo,
-            queues,
-            message,
-        });
+        let goes_on = self.goes_on_with(&origin, publication, &queues);
+        let subject = last_subject(&self.text, self.kept.as_slice(), publication.subject);
+        let message = keep(&mut self.text, subject, publication)?;
+        put_job(&mut self.kept, origin, queues, goes_on, message);
         Ok(())
     }
 
-    /// Puts the job of a message behind, with the turn behind the last one's. Small messages are copied, and larger ones shared. Want
-    /// of memory leaves all as it was. Required: there is a turn ([`JobBlock::next_turn`]).
+    /// The same of a publication of the subject, the publisher and the echo of the last job, where there is one: a run goes on with it.
+    /// Required, besides: all that is so, it has no header block, and at most [`SHORT_BYTES`](crate::SHORT_BYTES) of payload.
+    pub fn push_next(
+        &mut self,
+        publication: &PublicationParts<'_>,
+        origin: Origin,
+    ) -> Result<(), AllocError>
+        requires last { 0 < length self.old.jobs
+            → IsLast origin.publisher (content_by publication.now).subject origin.echo
+            self.old.jobs }
+        requires short { IsShort (content_by publication.now) }
+        requires valid { IsPublishable (content_by publication.now) }
+        requires turn { turn_behind self.old ≤ MAX_COUNTER }
+        ensures ok { OnOk result
+            (IsPushed (job_of origin (turn_behind self.old) (content_by publication.now) [])
+            self.old self.new) }
+        ensures err { OnErr result (IsLeft self.old self.new) }
+    {
+        self.kept.reserve(1)?;
+        let goes_on = !self.kept.is_empty();
+        let subject = last_span(self.kept.as_slice());
+        let message = keep(&mut self.text, subject, publication)?;
+        put_job(&mut self.kept, origin, QueueNames::new(), goes_on, message);
+        Ok(())
+    }
+
+    /// Puts the job of a message behind, with the turn behind the last one's. The message stays shared. Want of memory leaves all as
+    /// it was. Required: there is a turn ([`JobBlock::next_turn`]).
     pub fn push_message(
         &mut self,
-        message: &Message,
-        id: PubId,
-        publisher: Option<ConnId>,
-        echo: bool,
+        message: Message,
+        origin: Origin,
         queues: QueueNames,
     ) -> Result<(), AllocError>
         requires { turn_behind self.old ≤ MAX_COUNTER }
-        ensures ok { OnOk result (IsPushed (record {
-          turn = turn_behind self.old;
-          id = id;
-          message = message.now;
-          publisher = publisher;
-          echo = echo;
-          queues = queues;
-        }) self.old self.new) }
+        ensures ok { OnOk result
+            (IsPushed (job_of origin (turn_behind self.old) message queues) self.old self.new) }
         ensures err { OnErr result (IsLeft self.old self.new) }
     {
-        if message.whole().len() < SHARED_BYTES {
-            return self.push(&PublicationParts::of(message), id, publisher, echo, queues);
-        }
         self.kept.reserve(1)?;
-        let message = KeptMessage::Shared(message.try_clone()?);
-        self.kept.push_reserved(KeptJob {
-            id,
-            publisher,
-            echo,
+        let goes_on = self.goes_on_with(&origin, &PublicationParts::of(&message), &queues);
+        put_job(
+            &mut self.kept,
+            origin,
             queues,
-            message,
-        });
+            goes_on,
+            KeptMessage::Shared(message),
+        );
         Ok(())
     }
 
-    /// The turn, the publication and the publisher of the job at this place, counted from 0.
-    #[tactic(auto, using(crate::proofs::Places::jobs_length))]
-    pub fn head(&self, place: usize) -> JobHead
-        requires { place < length self.now.jobs }
-        ensures { IfSome (slice_get self.now.jobs place) (λ job. result ≡ head_of job) }
+    /// Whether a run goes on, behind the last job, with one that comes from there and publishes these parts.
+    fn goes_on_with(
+        &self,
+        origin: &Origin,
+        publication: &PublicationParts<'_>,
+        queues: &QueueNames,
+    ) -> bool
+        ensures { result ≡ true
+            → GoesOnAt (self.now.jobs
+            ++ job_of origin.now (turn_behind self.now) (content_by publication.now) queues.now
+            ∷ []) (length self.now.jobs) }
     {
-        let kept = &self.kept[place];
-        JobHead {
-            turn: turn_after(self.first_turn, place),
-            id: kept.id,
-            publisher: kept.publisher,
-            echo: kept.echo,
+        match self.kept.last() {
+            None => false,
+            Some(last) => last.goes_on_with(&self.text, origin, publication, queues),
         }
     }
 
-    /// What the job at this place, counted from 0, publishes, without a copy.
+    /// The job at this place, counted from 0, without a copy.
     #[tactic(auto, using(crate::proofs::Places::jobs_length))]
-    pub fn parts(&self, place: usize) -> PublicationParts<'_>
+    pub fn get(&self, place: usize) -> LentJob<'_>
         requires { place < length self.now.jobs }
-        ensures same { IfSome (slice_get self.now.jobs place) (λ job.
-            content_by result ≡ job.message) }
-        ensures valid { IsPublishable (content_by result) }
-    {
-        self.kept[place].message.parts(&self.text)
-    }
-
-    /// The queue names of the job at this place, counted from 0.
-    #[tactic(auto, using(crate::proofs::Places::jobs_length))]
-    pub fn queues(&self, place: usize) -> &QueueNames
-        requires { place < length self.now.jobs }
-        ensures { IfSome (slice_get self.now.jobs place) (λ job. result.now ≡ job.queues) }
-    {
-        &self.kept[place].queues
-    }
-
-    /// The message of the job at this place, counted from 0, where it stands apart: just where header block and payload have
-    /// [`SHARED_BYTES`] or more together. Its copies share it.
-    #[tactic(auto, using(crate::proofs::Places::jobs_length))]
-    pub fn shared(&self, place: usize) -> Option<&Message>
-        requires { place < length self.now.jobs }
-        ensures { IfSome (slice_get self.now.jobs place) (λ job.
-            option_copied result ≡ large_message job.message) }
-    {
-        self.kept[place].message.shared()
-    }
-
-    /// The job at this place, counted from 0, as a value of its own: it shares a message that stands apart and the queue names, and
-    /// has a copy of a small message.
-    #[tactic(auto, using(crate::proofs::Places::jobs_length))]
-    pub fn job(&self, place: usize) -> Result<Job, AllocError>
-        requires { place < length self.now.jobs }
-        ensures { IfOk result (λ job. slice_get self.now.jobs place ≡ Some job) }
+        ensures { slice_get self.now.jobs place ≡ Some result }
     {
         let kept = &self.kept[place];
-        let message = kept.message.message(*self.text.allocator(), &self.text)?;
-        let queues = kept.queues.try_clone()?;
-        Ok(Job {
-            turn: turn_after(self.first_turn, place),
-            id: kept.id,
-            message,
-            publisher: kept.publisher,
-            echo: kept.echo,
-            queues,
-        })
+        LentJob::of(&self.text, kept, turn_after(self.first_turn, place))
     }
 
-    /// Whether the job at this place, counted from 0, is of the subject of the one before it.
+    /// The last job, where there is one.
     #[tactic(auto, using(crate::proofs::Places::jobs_length))]
-    pub fn repeats_subject(&self, place: usize) -> bool
-        requires { place < length self.now.jobs }
-        ensures { result ≡ has_subject_before self.now.jobs place }
+    pub fn last(&self) -> Option<LentJob<'_>>
+        ensures { result ≡ slice_get self.now.jobs (length self.now.jobs - 1) }
     {
-        place > 0
-            && have_one_subject(
-                &self.text,
-                &self.kept[place - 1].message,
-                &self.kept[place].message,
-            )
+        let place = self.kept.len().checked_sub(1)?;
+        Some(self.get(place))
+    }
+
+    /// Whether a run goes on with the job at this place, counted from 0, behind the one before it.
+    #[tactic(auto, using(crate::proofs::Places::jobs_length))]
+    pub(crate) fn goes_on(&self, place: usize) -> bool
+        requires { place < length self.now.jobs }
+        ensures { result ≡ true → GoesOnAt self.now.jobs place }
+    {
+        self.kept[place].goes_on
     }
 }

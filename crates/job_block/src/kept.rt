@@ -1,27 +1,27 @@
 //! How the jobs of a block are kept.
 
-ghost use Rattle.std.specs.Prelude.{◌≡◌, ℕ, List, true, IfOk, IfSome, OnErr};
+ghost use Rattle.std.specs.Prelude.{◌≡◌, ◌+◌, ℕ, List, true, IfOk, IfSome, OnErr};
 ghost use Rattle.std.specs.Option.{option_copied};
-ghost use Rattle.std.specs.Str.{bytes_eq};
 ghost use Rattle.job_block.specs.Publications.{IsPublishable, content_by};
 ghost use Rattle.job_block.specs.Spans.{AreSpans, Extends, IsPart};
-ghost use Rattle.job_block.specs.Kept.{AreKept, IsKeptAs, IsKeptMessage, message_in, shared_in};
+ghost use Rattle.job_block.specs.Kept.{AreKept, IsKeptAs, IsKeptMessage, IsOfLast, job_in, message_in, shared_in};
+ghost use Rattle.job_block.specs.Blocks.{FollowsAlike, job_of};
 
 use crate::publications::PublicationParts;
 use crate::spans::{Span, Spans, put};
 use std::alloc::{AllocError, Global};
 use subj::{ConnId, Message, PubId, QueueNames};
 
-/// From how many bytes on header block and payload of a message are not copied where they are put: all who keep the message share
-/// them. (Profile.)
+/// From how many bytes on header block and payload of a publication are not copied into the text of a block: they stand apart, and all
+/// who keep the message share them. (Profile.)
 pub const SHARED_BYTES: usize = 4_096;
 
 /// What a job publishes.
 #[derive(Drop)]
 pub(crate) enum KeptMessage {
-    /// Its parts stand in the text of the block.
+    /// It is small, and its parts stand in the text of the block.
     InText(Spans),
-    /// It is large, and stands apart.
+    /// It stands apart.
     Shared(Message),
 }
 
@@ -71,39 +71,66 @@ impl KeptMessage {
     }
 }
 
+/// The most bytes of a payload with which a run goes on. (Profile.)
+pub const SHORT_BYTES: usize = 2_048;
+
 /// A job, whose turn follows from its place.
 #[derive(Drop)]
 pub(crate) struct KeptJob {
     pub(crate) id: PubId,
     pub(crate) publisher: Option<ConnId>,
     pub(crate) echo: bool,
+    /// Whether a run goes on with it: then it is like the one before it.
+    pub(crate) goes_on: bool,
     pub(crate) queues: QueueNames,
     pub(crate) message: KeptMessage,
 }
 
-/// Whether the subjects of the two messages stand at one place of the text.
-fn share_span(message: &KeptMessage, other: &KeptMessage) -> bool
-    ensures { result ≡ true
-        → (text : List ℕ)
-        → (message_in text message.now).subject ≡ (message_in text other.now).subject }
-{
-    match (message, other) {
-        (KeptMessage::InText(spans), KeptMessage::InText(others)) => {
-            spans.subject.is_same(others.subject)
+impl KeptJob {
+    /// Whether one that comes from there is of the same publisher, with the same echo.
+    fn is_from(&self, origin: &Origin) -> bool
+        ensures { result ≡ true
+            → (self.now.publisher ≡ origin.now.publisher) × (self.now.echo ≡ origin.now.echo) }
+    {
+        self.publisher == origin.publisher && self.echo == origin.echo
+    }
+
+    /// Whether a run goes on with a job that claims these queue names and publishes these parts, behind this one.
+    pub(crate) fn goes_on_with(
+        &self,
+        text: &[u8],
+        origin: &Origin,
+        publication: &PublicationParts<'_>,
+        queues: &QueueNames,
+    ) -> bool
+        requires { IsKeptMessage text.now self.now.message }
+        ensures { result ≡ true
+            → (turn : ℕ)
+            → FollowsAlike (job_in text.now turn self.now)
+            (job_of origin.now (turn + 1) (content_by publication.now) queues.now) }
+    {
+        if !queues.as_slice().is_empty() {
+            return false;
         }
-        _ => false,
+        if !publication.is_short() {
+            return false;
+        }
+        if !self.is_from(origin) {
+            return false;
+        }
+        self.message.subject(text) == publication.subject
     }
 }
 
-/// Whether the two messages have one subject.
-pub(crate) fn have_one_subject(text: &[u8], message: &KeptMessage, other: &KeptMessage) -> bool
-    requires message { IsKeptMessage text.now message.now }
-    requires other { IsKeptMessage text.now other.now }
-    ensures { result
-        ≡ bytes_eq (message_in text.now message.now).subject
-        (message_in text.now other.now).subject }
-{
-    share_span(message, other) || message.subject(text) == other.subject(text)
+/// Where a job comes from.
+#[derive(Clone, Copy)]
+pub struct Origin {
+    /// Which publication it is.
+    pub id: PubId,
+    /// The connection that published it, where that is one of this server.
+    pub publisher: Option<ConnId>,
+    /// Whether the publisher's own subscriptions may get it.
+    pub echo: bool,
 }
 
 /// Where the subject stands in the text, if it is the one of these parts.
@@ -118,8 +145,19 @@ fn subject_in(text: &[u8], spans: &Spans, subject: &[u8]) -> Option<Span>
     }
 }
 
+/// Where the last message's subject stands in the text, where that stands there.
+pub(crate) fn last_span(kept: &[KeptJob]) -> Option<Span>
+    ensures { IfSome result (λ span.
+        (text : List ℕ) → AreKept text kept.now → IsOfLast text kept.now span) }
+{
+    match &kept.last()?.message {
+        KeptMessage::InText(spans) => Some(spans.subject),
+        KeptMessage::Shared(_) => None,
+    }
+}
+
 /// Where the subject stands in the text, if it is the last message's, and that one stands there.
-fn last_subject(text: &[u8], kept: &[KeptJob], subject: &[u8]) -> Option<Span>
+pub(crate) fn last_subject(text: &[u8], kept: &[KeptJob], subject: &[u8]) -> Option<Span>
     requires { AreKept text.now kept.now }
     ensures { IfSome result (λ span. IsPart text.now span subject.now) }
 {
@@ -129,14 +167,15 @@ fn last_subject(text: &[u8], kept: &[KeptJob], subject: &[u8]) -> Option<Span>
     }
 }
 
-/// Keeps the message that has these parts: puts them behind the text, or makes a message that stands apart. Want of memory leaves
-/// the text as it was. Required: it can be published.
+/// Keeps the message that has these parts: puts them behind the text, where its subject may stand already, or makes a message that
+/// stands apart. Want of memory leaves the text as it was. Required: it can be published.
 pub(crate) fn keep(
     text: &mut Vec<u8>,
-    kept: &[KeptJob],
+    subject: Option<Span>,
     publication: &PublicationParts<'_>,
 ) -> Result<KeptMessage, AllocError>
-    requires kept { AreKept text.old.items kept.now }
+    requires subject { IfSome subject (λ span.
+        IsPart text.old.items span publication.now.subject.now) }
     requires valid { IsPublishable (content_by publication.now) }
     ensures message { IfOk result (λ message.
         IsKeptAs text.new.items message (content_by publication.now)) }
@@ -147,7 +186,6 @@ pub(crate) fn keep(
         let message = publication.to_message(*text.allocator())?;
         return Ok(KeptMessage::Shared(message));
     }
-    let subject = last_subject(text, kept, publication.subject);
     let spans = put(text, subject, publication)?;
     Ok(KeptMessage::InText(spans))
 }

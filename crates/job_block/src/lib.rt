@@ -2,19 +2,25 @@
 //!
 //! ```text
 //! let mut block = JobBlock::new(alloc, first_turn, 32)?;
-//! block.push(&publication, id, Some(conn), true, queues)?;
-//! let parts = block.parts(0);
+//! block.push(&publication, origin, queues)?;
+//! let job = block.get(0);
+//! let parts = job.publication();
 //! block.clear(next_turn);
 //! ```
 //!
-//! In reading order: `publications` is what is put into a block, `blocks` the block; `spans` and `kept` are how it keeps its jobs.
+//! In reading order: `publications` is what is put into a block, `blocks` the block, `lent_jobs` and `slices` how its jobs are seen;
+//! `spans` and `kept` are how it keeps them.
 #![tactic(auto)]
 
 mod blocks;
 mod kept;
+mod lent_jobs;
 mod publications;
+mod slices;
 mod spans;
 
-pub use blocks::{JOB_BYTES, JobBlock, JobHead, KEPT_BYTES};
-pub use kept::SHARED_BYTES;
-pub use publications::PublicationParts;
+pub use blocks::{JOB_BYTES, JobBlock, KEPT_BYTES};
+pub use kept::{Origin, SHARED_BYTES, SHORT_BYTES};
+pub use lent_jobs::LentJob;
+pub use publications::{LentPub, PublicationParts};
+pub use slices::JobSlice;

@@ -4,19 +4,20 @@ ghost use Rattle.std.specs.Prelude.{◌≡◌, ◌+◌, ◌≤◌, ◌++◌, tru
 ghost use Rattle.std.specs.Option.{option_copied};
 ghost use Rattle.subj.specs.Messages.{are_headers, block_bytes, body_bytes, body_of};
 ghost use Rattle.subj.specs.Names.{subject_fault};
-ghost use Rattle.job_block.specs.Publications.{IsPublishable, content_by};
+ghost use Rattle.job_block.specs.Publications.{IsPublishable, IsShort, content_by, lent_pub};
 
-use crate::kept::SHARED_BYTES;
+use crate::kept::{SHARED_BYTES, SHORT_BYTES};
 use bytes::Bytes;
 use std::alloc::{AllocError, Global};
+use std::marker::Model;
 use subj::{MAX_PAYLOAD, Message, MessageBody, MessageParts, Reply, Subject};
 
-/// The reply of a message.
-fn reply_bytes(message: &Message) -> Option<&[u8]>
-    ensures same { option_copied result ≡ message.now.reply }
-    ensures valid { IfSome message.now.reply (λ reply. subject_fault reply ≡ None) }
+/// The bytes of a reply, where there is one.
+fn reply_bytes(reply: Option<&Reply>) -> Option<&[u8]>
+    ensures same { option_copied result ≡ option_copied reply.entry }
+    ensures valid { IfSome (option_copied reply.entry) (λ reply. subject_fault reply ≡ None) }
 {
-    match message.reply() {
+    match reply {
         None => None,
         Some(reply) => Some(reply.bytes()),
     }
@@ -119,7 +120,7 @@ impl<'a> PublicationParts<'a> {
         ensures valid { IsPublishable message.now }
     {
         let subject = message.subject().bytes();
-        let reply = reply_bytes(message);
+        let reply = reply_bytes(message.reply());
         let headers = message.headers();
         let _ = message.whole();
         PublicationParts {
@@ -137,6 +138,13 @@ impl<'a> PublicationParts<'a> {
         ensures { result ≡ nat_le SHARED_BYTES (length (body_of (content_by self.now))) }
     {
         headers_len(self.headers) + self.payload.len() >= SHARED_BYTES
+    }
+
+    /// Whether a run may go on with it: it has no header block, and a payload of at most [`SHORT_BYTES`].
+    pub fn is_short(&self) -> bool
+        ensures { result ≡ true → IsShort (content_by self.now) }
+    {
+        self.headers.is_none() && self.payload.len() <= SHORT_BYTES
     }
 
     /// What the message is made of that has these parts. Required: it can be published.
@@ -161,5 +169,92 @@ impl<'a> PublicationParts<'a> {
     {
         let parts = self.to_parts(alloc)?;
         Ok(Message::from_parts(alloc, parts)?)
+    }
+}
+
+/// A publication as a client hands it in, without a header block, whose payload stands where it was read: no message is made of it.
+/// (NATS documentation, "Client Protocol": `PUB`, and `echo` of `CONNECT`.)
+///
+/// Seen as the publication. Its payload has at most [`SHORT_BYTES`] bytes. (Profile.)
+#[derive(Drop)]
+pub struct LentPub<'a> {
+    subject: &'a Subject,
+    reply: Option<&'a [u8]>,
+    payload: &'a [u8],
+    echo: bool,
+}
+
+impl<'a> Model for LentPub<'a> {
+    ghost use Rattle.std.specs.Prelude.{◌≡◌, ◌≤◌, length, None, IfSome};
+    ghost use Rattle.std.specs.Option.{option_copied};
+    ghost use Rattle.subj.specs.Names.{subject_fault};
+    ghost use Rattle.job_block.specs.declared.kept.TheConstants.{SHORT_BYTES};
+    ghost use Rattle.subj.specs.declared.messages.Pub.{Pub};
+    ghost use Rattle.job_block.specs.Publications.{lent_pub};
+
+    ghost Value = { Pub };
+
+    ghost view = { λ lent.
+        lent_pub lent.subject.now (option_copied lent.reply) lent.payload.now lent.echo };
+
+    ghost invariant = { λ lent.
+        (length lent.payload.now ≤ SHORT_BYTES)
+        × IfSome (option_copied lent.reply) (λ reply. subject_fault reply ≡ None) };
+}
+
+impl<'a> LentPub<'a> {
+    /// The publication of these. Required: the payload is within the limit, and the reply is a subject.
+    pub fn new(
+        subject: &'a Subject,
+        reply: Option<&'a [u8]>,
+        payload: &'a [u8],
+        echo: bool,
+    ) -> LentPub<'a>
+        requires payload { length payload.now ≤ SHORT_BYTES }
+        requires reply { IfSome (option_copied reply) (λ reply. subject_fault reply ≡ None) }
+        ensures { result ≡ lent_pub subject.now (option_copied reply.entry) payload.now echo }
+    {
+        LentPub {
+            subject,
+            reply,
+            payload,
+            echo,
+        }
+    }
+
+    /// What it is published on.
+    pub fn subject(&self) -> &'a Subject
+        ensures { result.now ≡ self.now.message.subject }
+    {
+        self.subject
+    }
+
+    /// The bytes that are published.
+    pub fn payload(&self) -> &'a [u8]
+        ensures { result.now ≡ self.now.message.payload }
+    {
+        self.payload
+    }
+
+    /// Whether the client's own subscriptions may get it.
+    pub fn echo(&self) -> bool
+        ensures { result ≡ self.now.echo }
+    {
+        self.echo
+    }
+
+    /// Its parts, each where it was read.
+    pub fn parts(&self) -> PublicationParts<'a>
+        ensures same { content_by result ≡ self.now.message }
+        ensures short { IsShort self.now.message }
+        ensures valid { IsPublishable self.now.message }
+    {
+        let subject = self.subject.bytes();
+        PublicationParts {
+            subject,
+            reply: self.reply,
+            headers: None,
+            payload: self.payload,
+        }
     }
 }

@@ -24,13 +24,6 @@ impl Span {
     {
         &text[self.start..self.end]
     }
-
-    /// Whether the other one is of the same place.
-    pub(crate) fn is_same(self, other: Span) -> bool
-        ensures { result ≡ true → self ≡ other }
-    {
-        self.start == other.start && self.end == other.end
-    }
 }
 
 /// The bytes, where there is a span.
@@ -81,6 +74,7 @@ fn append(text: &mut Vec<u8>, bytes: &[u8]) -> Result<Span, AllocError>
 }
 
 /// Puts bytes behind the text, where there are any: where they stand then.
+#[inline(always)]
 fn append_optional(text: &mut Vec<u8>, bytes: Option<&[u8]>) -> Result<Option<Span>, AllocError>
     ensures part { IfOk result (λ span.
         IsOptionalPart text.new.items span (option_copied bytes.entry)) }
@@ -110,6 +104,7 @@ fn append_subject(
 
 /// Puts the parts of a publication behind the text; its subject may stand there already. For want of memory some of them may
 /// stand there.
+#[inline(always)]
 fn append_parts(
     text: &mut Vec<u8>,
     subject: Option<Span>,

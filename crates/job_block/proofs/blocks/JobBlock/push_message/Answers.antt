@@ -1,72 +1,52 @@
-use Rattle.std.proofs.Common.{◌≡◌, ℕ, ◌≤◌, ◌++◌, ◌∷◌, [], List, length, refl, sym, subst, ap, ◌∙◌}
-use Rattle.subj.specs.Messages.{Content, body_bytes, body_of}
+use Rattle.std.proofs.Common.{refl, ap}
 use Rattle.job_block.specs.Blocks.{Block}
-use Rattle.job_block.specs.declared.kept.TheConstants.{SHARED_BYTES}
-use Rattle.job_block.specs.declared.kept.KeptJob.{KeptJob}
+use Rattle.job_block.specs.Publications.{content_by}
 use Rattle.job_block.specs.declared.kept.KeptMessage.TheVariants.{Shared}
-use Rattle.job_block.proofs.Places.{IsMore, pushed_block, pushed_jobs}
 use Rattle.job_block.proofs.Texts.{extends_same}
+use Rattle.job_block.specs.declared.kept.KeptJob.{KeptJob}
+use Rattle.job_block.proofs.Places.{IsMore, IsSeen, kept_of, pushed, pushed_block, put_more}
 use Rattle.job_block.proofs.blocks.JobBlock.push_message.Goals as goal
 
-large_clone : (content : Content) (whole : List ℕ) (copy : Content) (len : ℕ)
-    → whole ≡ body_bytes content.headers content.payload
-    → copy ≡ content
-    → len ≡ length whole
-    → SHARED_BYTES ≤ len
-    → SHARED_BYTES ≤ length (body_of copy)
-large_clone content whole copy len is same size large =
-    subst (λ (c : Content). SHARED_BYTES ≤ length (body_of c)) (sym same)
-    (subst (λ n. SHARED_BYTES ≤ n) (size ∙ ap (λ (l : List ℕ). length l) is) large)
-
-pub invariant_of-self-2 : goal.invariant_of-self-2
-invariant_of-self-2 c =
+pub invariant_of-self-3 : goal.invariant_of-self-3
+invariant_of-self-3 c =
     let fields = c.self.inside in
-    let items = c.push_reserved.new.self.items in
-    let last : KeptJob = record {
-      id = c.args.id;
-      publisher = c.args.publisher;
-      echo = c.args.echo;
-      queues = c.args.queues;
-      message = Shared c.in_ok-try_clone.field-0;
+    let text = fields.text.items in
+    let kept = fields.kept.items in
+    let block = c.args.self.now in
+    let content = c.args.message in
+    let items = c.put_job.new.kept.items in
+    let goes_on = c.goes_on_with-goes_on.result in
+    let last : KeptJob = kept_of c.args.origin c.args.queues goes_on (Shared c.args.message) in
+    let seen : IsSeen text fields.first_turn kept block = record {
+      first = ap (λ (b : Block). b.first_turn) c.self.view_is;
+      jobs = ap (λ (b : Block). b.jobs) c.self.view_is;
+      is = c.self.invariant;
     } in
-    let put : items ≡ fields.kept.items ++ last ∷ [] =
-    c.push_reserved.ensures.items ∙ ap (λ (l : List KeptJob). l ++ last ∷ []) c.in_ok-reserve.ensures.items in
-    let more : IsMore fields.text.items fields.text.items fields.kept.items items last = record {
-      grows = extends_same fields.text.items fields.text.items refl;
-      put = put;
-      message =
-          large_clone c.args.message.now c.whole.result.now c.in_ok-try_clone.field-0 c.len.result c.whole.ensures.same
-          c.in_ok-try_clone.ensures (c.len.ensures.value) c.if-len-lt-SHARED_BYTES.false;
-    } in
-    pushed_block fields.text.items fields.text.items fields.first_turn fields.kept.items items last c.args.self.now
-    (ap (λ (b : Block). b.first_turn) c.self.view_is) (ap (λ (b : Block). b.jobs) c.self.view_is) c.self.invariant more
-    c.requires
+    let more : IsMore text text kept items last block content =
+    put_more text text fields.first_turn kept c.reserve.new.self.items items c.args.origin c.args.queues goes_on
+    (Shared c.args.message) block (content_by c.of.result) content seen c.in_ok-reserve.ensures.items
+    c.put_job.ensures (extends_same text text refl) (record { kept = tt; same = refl }) c.of.ensures.same
+    c.goes_on_with-goes_on.ensures in
+    pushed_block text text fields.first_turn kept items last block content seen more c.requires
 
 pub returns-clause-ok : goal.returns-clause-ok
 returns-clause-ok c =
     let fields = c.self.inside in
-    let items = c.push_reserved.new.self.items in
-    let last : KeptJob = record {
-      id = c.args.id;
-      publisher = c.args.publisher;
-      echo = c.args.echo;
-      queues = c.args.queues;
-      message = Shared c.in_ok-try_clone.field-0;
+    let text = fields.text.items in
+    let kept = fields.kept.items in
+    let block = c.args.self.now in
+    let content = c.args.message in
+    let items = c.put_job.new.kept.items in
+    let goes_on = c.goes_on_with-goes_on.result in
+    let last : KeptJob = kept_of c.args.origin c.args.queues goes_on (Shared c.args.message) in
+    let seen : IsSeen text fields.first_turn kept block = record {
+      first = ap (λ (b : Block). b.first_turn) c.self.view_is;
+      jobs = ap (λ (b : Block). b.jobs) c.self.view_is;
+      is = c.self.invariant;
     } in
-    let put : items ≡ fields.kept.items ++ last ∷ [] =
-    c.push_reserved.ensures.items ∙ ap (λ (l : List KeptJob). l ++ last ∷ []) c.in_ok-reserve.ensures.items in
-    let more : IsMore fields.text.items fields.text.items fields.kept.items items last = record {
-      grows = extends_same fields.text.items fields.text.items refl;
-      put = put;
-      message =
-          large_clone c.args.message.now c.whole.result.now c.in_ok-try_clone.field-0 c.len.result c.whole.ensures.same
-          c.in_ok-try_clone.ensures (c.len.ensures.value) c.if-len-lt-SHARED_BYTES.false;
-    } in
-    let first = ap (λ (b : Block). b.first_turn) c.self.view_is in
-    record {
-      first_turn = first;
-      jobs =
-          pushed_jobs fields.text.items fields.text.items fields.first_turn fields.kept.items items last c.args.self.now
-          (c.args.message.now) first (ap (λ (b : Block). b.jobs) c.self.view_is) c.self.invariant more
-          c.in_ok-try_clone.ensures;
-    }
+    let more : IsMore text text kept items last block content =
+    put_more text text fields.first_turn kept c.reserve.new.self.items items c.args.origin c.args.queues goes_on
+    (Shared c.args.message) block (content_by c.of.result) content seen c.in_ok-reserve.ensures.items
+    c.put_job.ensures (extends_same text text refl) (record { kept = tt; same = refl }) c.of.ensures.same
+    c.goes_on_with-goes_on.ensures in
+    pushed text text fields.first_turn kept items last block content _ seen more
