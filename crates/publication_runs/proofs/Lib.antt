@@ -4,3 +4,5 @@ mod Fields
 mod Scanned
 mod Spelt
 mod Readings
+-- what holds of publications that were given one after the other
+pub mod Lent

@@ -1,19 +1,23 @@
 -- What a scan has found, and that nothing stands there where it has found nothing.
 use Rattle.std.proofs.Common.{◌≡◌, ℕ, ◌+◌, ◌-◌, ◌<◌, ◌≤◌, true, false, List, [], ◌∷◌, ◌++◌, length, take, refl, ap, sym, ◌∙◌, subst, arith, append_assoc, length-append, Option, Some, None}
 use Rattle.std.specs.Prelude.{codes, is_none}
+use Rattle.std.specs.Bool.{Decides}
 use Rattle.std.proofs.lemmas.List.{append_cancel_left}
 use Rattle.std.proofs.Math.Seq.{take-append_seam}
-use Rattle.subj.specs.declared.limits.TheConstants.{MAX_PAYLOAD}
+use Rattle.subj.specs.declared.messages.Pub.{Pub}
 use Rattle.subj.specs.Names.{subject_fault}
+use Rattle.job_block.specs.declared.kept.TheConstants.{SHORT_BYTES}
+use Rattle.job_block.specs.Publications.{lent_pub}
 use Rattle.line_fields.specs.LineEnd.{line_end}
 use Rattle.client_frames.specs.Arguments.{count_of}
 use Rattle.client_frames.specs.Lines.{reply_fault}
 use Rattle.client_frames.specs.Messages.{reply_field}
 use Rattle.publication_runs.specs.Lines.{PubFields, line_text, IsPlainLine}
 use Rattle.publication_runs.specs.Runs.{Publication, fields_of, BeginsWith}
-use Rattle.publication_runs.specs.Cuts.{blank, cr, HasNo, IsCutAt, BeginsOtherwise, AreCut, BeginsWithFields, HasNoFields, HasNoPlainLine, HasNoPayload}
+use Rattle.publication_runs.specs.Cuts.{blank, cr, HasNo, IsCutAt, BeginsOtherwise, AreCut, BeginsWithFields, HasNoFields, HasNoShortLine, BeginsWithPayload, HasNoPayload}
 use Rattle.publication_runs.specs.States.{RunState}
 use Rattle.publication_runs.specs.Scans.{HasEnded}
+use Rattle.publication_runs.specs.Lent.{LentState, IsAheadAs}
 use Rattle.publication_runs.proofs.Bytes.{stands_there, cut_once}
 use Rattle.publication_runs.proofs.Fields.{behind_word, cut_alike, plain_is_cut}
 
@@ -62,8 +66,8 @@ as_fields : (line : List ℕ) (fields : PubFields) (size : ℕ) (rest : List ℕ
 as_fields line fields size rest plain =
     ap (λ l. l ++ rest) plain.whole ∙ append_assoc (line_text fields) line_end rest
 
-pub no_fields : (text : List ℕ) → HasNoFields text → HasNoPlainLine text
-no_fields text none line fields size rest plain is =
+pub no_fields : (subject text : List ℕ) → HasNoFields text → HasNoShortLine subject text
+no_fields subject text none line fields size rest plain same short is =
     none fields rest (plain_is_cut line fields size plain) (is ∙ as_fields line fields size rest plain)
 
 -- any plain line there has the fields that were found
@@ -76,41 +80,41 @@ found_fields found text rest line fields size behind begins plain is =
     (cut_alike found fields rest behind begins.are_cut (plain_is_cut line fields size plain)
     (sym begins.whole ∙ is ∙ as_fields line fields size behind plain)).0
 
-pub no_size : (found : PubFields) (text rest : List ℕ)
+pub no_size : (found : PubFields) (subject text rest : List ℕ)
     → BeginsWithFields found text rest
     → None ≡ count_of found.digits
-    → HasNoPlainLine text
-no_size found text rest begins none line fields size behind plain is =
+    → HasNoShortLine subject text
+no_size found subject text rest begins none line fields size behind plain on short is =
     let same = found_fields found text rest line fields size behind begins plain is in
     let sized : None ≡ Some size = none ∙ ap (λ f. count_of f.digits) same ∙ plain.is_size in
     absurd (cc)
 
-pub too_large : (found : PubFields) (text rest : List ℕ) (n : ℕ)
+pub too_large : (found : PubFields) (subject text rest : List ℕ) (n : ℕ)
     → BeginsWithFields found text rest
     → Some n ≡ count_of found.digits
-    → MAX_PAYLOAD < n
-    → HasNoPlainLine text
-too_large found text rest n begins is_n above line fields size behind plain is =
+    → SHORT_BYTES < n
+    → HasNoShortLine subject text
+too_large found subject text rest n begins is_n above line fields size behind plain on short is =
     let same = found_fields found text rest line fields size behind begins plain is in
     let sized : Some n ≡ Some size = is_n ∙ ap (λ f. count_of f.digits) same ∙ plain.is_size in
     let alike : n ≡ size = cc in
-    let fits : size ≤ MAX_PAYLOAD = plain.fits in
+    let fits : size ≤ SHORT_BYTES = short in
     absurd (omega arith)
 
-pub bad_subject : (found : PubFields) (text rest : List ℕ)
+pub other_subject : (found : PubFields) (subject text rest : List ℕ)
     → BeginsWithFields found text rest
-    → false ≡ is_none (subject_fault found.subject)
-    → HasNoPlainLine text
-bad_subject found text rest begins bad line fields size behind plain is =
+    → Decides false (found.subject ≡ subject)
+    → HasNoShortLine subject text
+other_subject found subject text rest begins other line fields size behind plain on short is =
     let same = found_fields found text rest line fields size behind begins plain is in
-    let good : false ≡ true = bad ∙ ap (λ f. is_none (subject_fault f.subject)) same ∙ ap is_none plain.is_subject in
+    let never : false ≡ true = other.1 (ap (λ f. f.subject) same ∙ on) in
     absurd (cc)
 
-pub bad_reply : (found : PubFields) (text rest : List ℕ)
+pub bad_reply : (found : PubFields) (subject text rest : List ℕ)
     → BeginsWithFields found text rest
     → false ≡ is_none (reply_fault found.reply)
-    → HasNoPlainLine text
-bad_reply found text rest begins bad line fields size behind plain is =
+    → HasNoShortLine subject text
+bad_reply found subject text rest begins bad line fields size behind plain on short is =
     let same = found_fields found text rest line fields size behind begins plain is in
     let good : false ≡ true = bad ∙ ap (λ f. is_none (reply_fault f.reply)) same ∙ ap is_none plain.is_reply in
     absurd (cc)
@@ -127,29 +131,39 @@ front_of text line rest is =
     let many : length text - length rest ≡ length line = omega arith in
     ap (λ n. take n text) many ∙ ap (take (length line)) is ∙ take-append_seam line rest
 
-pub plain_found : (found : PubFields) (text rest : List ℕ) (n : ℕ)
+-- the line that is taken, and what stands behind it
+pub rejoined : (found : PubFields) (text rest : List ℕ)
+    → BeginsWithFields found text rest
+    → text ≡ take (length text - length rest) text ++ rest
+rejoined found text rest begins =
+    let line = line_text found ++ line_end in
+    let is : text ≡ line ++ rest = begins.whole ∙ sym (append_assoc (line_text found) line_end rest) in
+    is ∙ ap (λ l. l ++ rest) (sym (front_of text line rest is))
+
+pub plain_found : (found : PubFields) (subject text rest : List ℕ) (n : ℕ)
     → BeginsWithFields found text rest
     → Some n ≡ count_of found.digits
-    → n ≤ MAX_PAYLOAD
-    → true ≡ is_none (subject_fault found.subject)
+    → n ≤ SHORT_BYTES
+    → Decides true (found.subject ≡ subject)
+    → subject_fault subject ≡ None
     → true ≡ is_none (reply_fault found.reply)
     → IsPlainLine (take (length text - length rest) text) found n
-plain_found found text rest n begins is_n fits good good_too = record {
+plain_found found subject text rest n begins is_n short on valid good = record {
   whole =
       front_of text (line_text found ++ line_end) rest
       (begins.whole ∙ sym (append_assoc (line_text found) line_end rest));
-  is_subject = none_by (subject_fault found.subject) good;
-  is_reply = none_by (reply_fault found.reply) good_too;
+  is_subject = ap subject_fault (on.0 refl) ∙ valid;
+  is_reply = none_by (reply_fault found.reply) good;
   is_size = sym is_n;
-  fits = fits;
+  fits = omega arith;
 }
 
 -- ---- a scan that has ended
 
-pub no_line_there : (s : RunState) → HasNoPlainLine s.behind → HasEnded s
-no_line_there s none publication rest begins left =
+pub no_line_there : (subject : List ℕ) (s : RunState) → HasNoShortLine subject s.behind → HasEnded subject s
+no_line_there subject s none publication rest begins on short =
     absurd (none begins.line (fields_of publication begins.digits) (length publication.payload)
-    (publication.payload ++ (line_end ++ rest)) begins.is_line begins.whole)
+    (publication.payload ++ (line_end ++ rest)) begins.is_line on short begins.whole)
 
 -- two plain lines at one place announce the same
 announced : (line : List ℕ) (fields : PubFields) (size : ℕ) (text behind : List ℕ) (publication : Publication)
@@ -171,21 +185,41 @@ announced line fields size text behind publication rest plain is begins =
     sym plain.is_size ∙ ap (λ f. count_of f.digits) same.0 ∙ begins.is_line.is_size in
     (cc, same.1)
 
-pub too_long_for : (s : RunState) (line : List ℕ) (fields : PubFields) (size : ℕ) (text : List ℕ)
-    → IsPlainLine line fields size
-    → s.behind ≡ line ++ text
-    → s.most_bytes < size
-    → HasEnded s
-too_long_for s line fields size text plain is above publication rest begins left =
-    let same : size ≡ length publication.payload =
-    (announced line fields size text s.behind publication rest plain is begins).0 in
-    omega arith
-
-pub no_payload_there : (s : RunState) (line : List ℕ) (fields : PubFields) (size : ℕ) (text : List ℕ)
+pub no_payload_there : (subject : List ℕ) (s : RunState) (line : List ℕ) (fields : PubFields) (size : ℕ) (text : List ℕ)
     → IsPlainLine line fields size
     → s.behind ≡ line ++ text
     → HasNoPayload size text
-    → HasEnded s
-no_payload_there s line fields size text plain is none publication rest begins left =
+    → HasEnded subject s
+no_payload_there subject s line fields size text plain is none publication rest begins on short =
     let there = announced line fields size text s.behind publication rest plain is begins in
     absurd (none publication.payload rest (sym there.0) there.1)
+
+-- ---- a publication that is found
+
+pub found_ahead : (s : LentState) (line : List ℕ) (fields : PubFields) (size : ℕ) (text payload behind : List ℕ)
+    (given : Pub)
+    → IsPlainLine line fields size
+    → size ≤ SHORT_BYTES
+    → fields.subject ≡ s.subject
+    → s.run.behind ≡ line ++ text
+    → BeginsWithPayload size text payload behind
+    → 0 < s.run.left
+    → given ≡ lent_pub s.subject fields.reply payload s.echo
+    → IsAheadAs behind given s
+found_ahead s line fields size text payload behind given plain short on is there more as_given =
+    let sized : size ≡ length payload = sym there.is_size in
+    record {
+      publication = record { subject = fields.subject; reply = fields.reply; payload = payload };
+      is_ahead = record {
+        begins = record {
+          line = line;
+          digits = fields.digits;
+          is_line = subst (λ n. IsPlainLine line fields n) sized plain;
+          whole = is ∙ ap (λ l. line ++ l) there.whole;
+        };
+        short = omega arith;
+        more = more;
+      };
+      is_on = on;
+      is_as = as_given ∙ ap (λ subject. lent_pub subject fields.reply payload s.echo) (sym on);
+    }

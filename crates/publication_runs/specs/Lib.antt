@@ -10,3 +10,5 @@ pub mod Cuts
 pub mod States
 -- what a scan has found
 pub mod Scans
+-- publications that are lent, on one subject
+pub mod Lent

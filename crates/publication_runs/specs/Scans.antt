@@ -1,28 +1,26 @@
 -- What a scan has found, and where it stands.
 use Rattle.std.specs.Prelude.{◌≡◌, ℕ, ◌+◌, ◌<◌, ◌≤◌, List, length}
-use Rattle.std.specs.Option.{option_copied}
-use Rattle.publication_runs.specs.declared.runs.PlainPublication.{PlainPublication}
+use Rattle.job_block.specs.declared.kept.TheConstants.{SHORT_BYTES}
 use Rattle.publication_runs.specs.Runs.{Publication, BeginsWith}
 use Rattle.publication_runs.specs.States.{RunState}
 
-abbrev pub publication_in : PlainPublication → Publication
-publication_in found = record {
-  subject = found.subject.now;
-  reply = option_copied found.reply;
-  payload = found.payload.now;
-}
+-- this publication comes next, is short enough, and this stands behind it
+pub record IsAhead (behind : List ℕ) (publication : Publication) (s : RunState) : Type 0 where
+  pub begins : BeginsWith publication s.behind behind
+  pub short : length publication.payload ≤ SHORT_BYTES
+  pub more : 0 < s.left
 
 -- the next publication was given
 pub record HasGiven (publication : Publication) (old new : RunState) : Type 0 where
   pub begins : BeginsWith publication old.behind new.behind
-  pub short : length publication.payload ≤ old.most_bytes
+  pub short : length publication.payload ≤ SHORT_BYTES
   pub counted : old.left ≡ new.left + 1
-  pub same_most : new.most_bytes ≡ old.most_bytes
 
--- as many were given as are asked for, or none of so few bytes stands there
-abbrev pub HasEnded : RunState → Type 0
-HasEnded s =
+-- as many were given as are asked for, or none on this subject stands there that is short enough
+abbrev pub HasEnded : List ℕ → RunState → Type 0
+HasEnded subject s =
     (publication : Publication) (rest : List ℕ)
     → BeginsWith publication s.behind rest
-    → 0 < s.left
-    → s.most_bytes < length publication.payload
+    → publication.subject ≡ subject
+    → length publication.payload ≤ SHORT_BYTES
+    → s.left ≡ 0

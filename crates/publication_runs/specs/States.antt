@@ -6,5 +6,3 @@ pub record RunState : Type 0 where
   pub behind : List ℕ
   -- how many may still be given
   pub left : ℕ
-  -- how many bytes the payload of each may have
-  pub most_bytes : ℕ

@@ -9,7 +9,7 @@ use line_fields::CR_LF;
 use memchr::memchr;
 
 /// What the line of a publication begins with. (NATS documentation, "Client Protocol".)
-const PUB: &[u8] = b"PUB ";
+pub(crate) const PUB: &[u8] = b"PUB ";
 
 /// What stands behind these bytes. None just where the text does not begin with them.
 #[inline(always)]

@@ -1,11 +1,15 @@
-//! Publications that stand one behind another at the beginning of a text, read in one pass.
+//! Publications on one subject that stand one behind another at the beginning of a text, read in one pass.
 //!
 //! ```text
-//! let mut run = PlainRun::new(b"PUB a 2\r\nhi\r\nPUB a 2\r\nho\r\nPING\r\n", 32, 4_096);
-//! while let Some(publication) = run.next() {
-//!     serve(publication.subject, publication.payload);
+//! let subject = Subject::read(alloc, b"a")?;
+//! let text = b"PUB a 2\r\nhi\r\nPUB a 2\r\nho\r\nPING\r\n";
+//! if let Some(mut run) = LentRun::new(text, &subject, 32, true) {
+//!     while let Some(ahead) = run.peek() {
+//!         serve(&ahead.publication);
+//!         run.pass(&ahead);
+//!     }
+//!     assert_eq!(rt; run.left(), 6);
 //! }
-//! assert_eq!(rt; run.behind(), b"PING\r\n".as_slice());
 //! ```
 //!
 //! Where a line has to come next, a text that begins with such publications is read as just these, in order, and then as what stands behind
@@ -21,4 +25,4 @@ mod lines;
 mod runs;
 
 pub use laws::{publication_is_read, run_is_found, run_is_read};
-pub use runs::{PlainPublication, PlainRun};
+pub use runs::{LentAhead, LentRun};

@@ -1,115 +1,161 @@
-//! Scans a run of publications.
+//! Scans publications that are lent: those that stand one behind another in a text, on one subject, are published without a message.
 
-ghost use Rattle.std.specs.Prelude.{◌≡◌, ◌++◌, IfNone, IfSome, IsSomeAnd};
-ghost use Rattle.publication_runs.specs.Cuts.{HasNoPlainLine};
+ghost use Rattle.std.specs.Prelude.{◌≡◌, ◌++◌, length, IfNone, IfSome, IsSomeAnd};
+ghost use Rattle.publication_runs.specs.Cuts.{HasNoShortLine};
 
-use crate::cuts::{behind, split_payload};
+use crate::cuts::{PUB, behind, split_payload};
 use crate::lines::PlainLine;
+use job_block::LentPub;
 use std::marker::Model;
-
-/// What a `PUB` publishes, by its parts where they stand in the text. It has no header block.
-#[derive(Clone, Copy)]
-pub struct PlainPublication<'a> {
-    /// A valid subject.
-    pub subject: &'a [u8],
-    /// The subject that an answer is awaited on.
-    pub reply: Option<&'a [u8]>,
-    /// At most [`MAX_PAYLOAD`](subj::MAX_PAYLOAD) bytes.
-    pub payload: &'a [u8],
-}
+use subj::Subject;
 
 /// What stands behind the line that a text begins with; this is the last line then. A line that is the last one again is not read again:
-/// its bytes are compared once. None just where the text begins with no line that is plainly written.
+/// its bytes are compared once. None just where the text begins with no line on the subject that is plainly written, with a short
+/// payload. Required: the last line is on the subject.
 #[inline(always)]
-fn pass_line<'a>(last: &mut Option<PlainLine<'a>>, text: &'a [u8]) -> Option<&'a [u8]>
+fn pass_line<'a>(
+    last: &mut Option<PlainLine<'a>>,
+    subject: &Subject,
+    text: &'a [u8],
+) -> Option<&'a [u8]>
+    requires { IfSome last.old (λ line. line.fields.subject.now ≡ subject.now) }
+    ensures on { IfSome last.new (λ line. line.fields.subject.now ≡ subject.now) }
     ensures line { IfSome result (λ behind.
         IsSomeAnd last.new (λ line. text.now ≡ line.text.now ++ behind.now)) }
-    ensures none { IfNone result (HasNoPlainLine text.now) }
+    ensures none { IfNone result (HasNoShortLine subject.now text.now) }
 {
     if let Some(line) = last {
         if let Some(behind) = behind(text, line.text) {
             return Some(behind);
         }
     }
-    let (line, behind) = PlainLine::read(text, last)?;
+    let (line, behind) = PlainLine::read(text, subject)?;
     *last = Some(line);
     Some(behind)
 }
 
-/// Scans the publications that a text begins with, one after another, as far as they are plainly written: `PUB` in capitals, one blank
-/// before each field, and CR LF; then the payload, whole, and CR LF. Nothing is copied, and it takes no memory.
+/// Publications that a connection lends: they stand one behind another in what was read, plainly written, on one subject: `PUB` in
+/// capitals, one blank before each field, and CR LF; then the payload, whole, of at most [`SHORT_BYTES`](job_block::SHORT_BYTES) bytes, and
+/// CR LF. Nothing is copied, and it takes no memory. (NATS documentation, "Client Protocol": `PUB`.)
 ///
-/// Seen as the bytes behind the publications that were given, how many may still be given, and how many bytes a payload may have.
+/// Seen as how far they are given, their subject, and whether the client's own subscriptions may get them.
 #[derive(Drop)]
-pub struct PlainRun<'a> {
+pub struct LentRun<'a> {
     behind: &'a [u8],
+    subject: &'a Subject,
     /// The line that was passed last.
     last: Option<PlainLine<'a>>,
     left: usize,
-    most_bytes: usize,
+    echo: bool,
+    payload_bytes: usize,
 }
 
-impl<'a> Model for PlainRun<'a> {
-    ghost use Rattle.publication_runs.specs.States.{RunState};
+impl<'a> Model for LentRun<'a> {
+    ghost use Rattle.std.specs.Prelude.{◌≡◌, IfSome};
+    ghost use Rattle.publication_runs.specs.Lent.{LentState};
 
-    ghost Value = { RunState };
+    ghost Value = { LentState };
 
-    ghost view = { λ run. record {
-      behind = run.behind.now;
-      left = run.left;
-      most_bytes = run.most_bytes;
+    ghost view = { λ lent. record {
+      run = record { behind = lent.behind.now; left = lent.left };
+      subject = lent.subject.now;
+      echo = lent.echo;
     } };
+
+    ghost invariant = { λ lent.
+        IfSome lent.last (λ line. line.fields.subject.now ≡ lent.subject.now) };
 }
 
-impl<'a> PlainRun<'a> {
-    ghost use Rattle.publication_runs.specs.Scans.{HasEnded, HasGiven, publication_in};
+impl<'a> LentRun<'a> {
+    ghost use Rattle.publication_runs.specs.Scans.{HasEnded};
+    ghost use Rattle.publication_runs.specs.Lent.{GivesOne, IsAheadAs, begins_lent};
 
-    /// The publications that a text begins with, at most `most`, each with at most `most_bytes` bytes of payload.
-    pub fn new(text: &'a [u8], most: usize, most_bytes: usize) -> PlainRun<'a>
-        ensures { result
-            ≡ record { behind = text.now; left = most; most_bytes = most_bytes } }
+    /// The publications on this subject that a text begins with, at most so many. None only where it begins with none.
+    pub fn new(text: &'a [u8], subject: &'a Subject, most: usize, echo: bool) -> Option<LentRun<'a>>
+        ensures some { IfSome result (λ lent. lent ≡ begins_lent text.now subject.now most echo) }
+        ensures none { IfNone result
+            (HasEnded subject.now (record { behind = text.now; left = most })) }
     {
-        PlainRun {
+        let fields = behind(text, PUB)?;
+        behind(fields, subject.bytes())?;
+        Some(LentRun {
             behind: text,
+            subject,
             last: None,
             left: most,
-            most_bytes,
-        }
+            echo,
+            payload_bytes: 0,
+        })
     }
 
-    /// What stands behind the publications that were given.
-    pub fn behind(&self) -> &'a [u8]
-        ensures { result.now ≡ self.now.behind }
+    /// What they are published on.
+    pub fn subject(&self) -> &'a Subject
+        ensures { result.now ≡ self.now.subject }
     {
-        self.behind
+        self.subject
     }
 
-    /// The next publication. None just where as many were given as were wanted, or the text goes on with none that is plainly written and
-    /// short enough: with another command, with a line that is written in another way or refused, with a payload that has too many bytes
-    /// or is not whole. All stays as it was then. (NATS documentation, "Client Protocol": `PUB`.)
-    pub fn next(&mut self) -> Option<PlainPublication<'a>>
-        ensures given { IfSome result (λ found. HasGiven (publication_in found) self.old self.new) }
-        ensures same { IfNone result (self.new ≡ self.old) }
-        ensures ended { IfNone result (HasEnded self.old) }
+    /// Whether the client's own subscriptions may get them.
+    pub fn echo(&self) -> bool
+        ensures { result ≡ self.now.echo }
+    {
+        self.echo
+    }
+
+    /// How many bytes the payloads of all have that were given since it began. A hint.
+    pub fn payload_bytes(&self) -> usize {
+        self.payload_bytes
+    }
+
+    /// How many bytes stand behind those that were given.
+    pub fn left(&self) -> usize
+        ensures { result ≡ length self.now.run.behind }
+    {
+        self.behind.len()
+    }
+
+    /// The next one, which is not given yet. None just where as many were given as were wanted, or the text goes on with none that is
+    /// lent: with another command, with a line that is on another subject, written in another way or refused, with a payload that has too
+    /// many bytes or is not whole.
+    #[inline(always)]
+    pub fn peek(&mut self) -> Option<LentAhead<'a>>
+        ensures found { IfSome result (λ ahead.
+            IsAheadAs ahead.behind.now ahead.publication self.old) }
+        ensures same { self.new ≡ self.old }
+        ensures ended { IfNone result (HasEnded self.old.subject self.old.run) }
     {
         if self.left == 0 {
             return None;
         }
-        let behind_line = pass_line(&mut self.last, self.behind)?;
+        let behind_line = pass_line(&mut self.last, self.subject, self.behind)?;
         let Some(line) = self.last else {
             // ensured: a line was passed
             unreachable!()
         };
-        if line.size > self.most_bytes {
-            return None;
-        }
         let (payload, behind) = split_payload(behind_line, line.size)?;
-        self.behind = behind;
-        self.left -= 1;
-        Some(PlainPublication {
-            subject: line.fields.subject,
-            reply: line.fields.reply,
-            payload,
+        Some(LentAhead {
+            publication: LentPub::new(self.subject, line.fields.reply, payload, self.echo),
+            behind,
         })
     }
+
+    /// The next one is given. Required: it is this one.
+    #[inline(always)]
+    pub fn pass(&mut self, ahead: &LentAhead<'a>)
+        requires { IsAheadAs ahead.now.behind.now ahead.now.publication self.old }
+        ensures { GivesOne ahead.now.publication self.old self.new }
+    {
+        let bytes = ahead.publication.payload().len();
+        self.payload_bytes = self.payload_bytes.saturating_add(bytes);
+        self.behind = ahead.behind;
+        self.left -= 1;
+    }
+}
+
+/// A publication that is lent next.
+#[derive(Drop)]
+pub struct LentAhead<'a> {
+    pub publication: LentPub<'a>,
+    /// What stands behind it in what was read.
+    pub behind: &'a [u8],
 }
