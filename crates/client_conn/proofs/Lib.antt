@@ -4,3 +4,4 @@ mod Bodies
 mod Looking
 pub mod Closing
 mod Answering
+mod Lending

@@ -1,6 +1,6 @@
 -- Asks of a client: what a connection asks of its server, as a function of the bytes fed and of the
 -- answers given.
-use Rattle.std.specs.Prelude.{ℕ, List, [], ◌∷◌, ◌++◌, Result, Ok, Err, Bool, true, false, ◌&&◌}
+use Rattle.std.specs.Prelude.{◌≡◌, ℕ, List, [], ◌∷◌, ◌++◌, Option, Some, slice_get, Result, Ok, Err, Bool, true, false, ◌&&◌}
 use Rattle.wire_cut.specs.Reading.{End, waits, closed, Reading, reading_of}
 use Rattle.client_frames.specs.declared.client_line.Awaited.{Awaited}
 use Rattle.client_frames.specs.declared.client_line.Awaited.TheVariants as awaits
@@ -116,6 +116,12 @@ abbrev pub asks_after_answers : List Answer → Asking → Asking
 asks_after_answers [] s = s
 asks_after_answers (answer ∷ answers) s = asks_after_answers answers (asks_after_answer answer s)
 
+-- each of these stands first once those before it are done, and once all are done it goes on so
+abbrev pub AsksInTurn : List ClientAction → Asking → Asking → Type 0
+AsksInTurn [] old new = new ≡ old
+AsksInTurn (ask ∷ asks) old new =
+    (slice_get old.asks 0 ≡ Some ask) × AsksInTurn asks (asks_after_answer (Ok tt) old) new
+
 -- what stands to be asked after these bytes and these answers
 abbrev pub asking_after : InfoData → List ℕ → List Answer → Asking
 asking_after info bytes answers =
@@ -123,7 +129,16 @@ asking_after info bytes answers =
 
 -- ---- a connection as its callers see it
 
+-- what is lent: the bytes that are unread, and whether the client's own subscriptions may get what
+-- is published there
+pub record Lends : Type 0 where
+  pub text : List ℕ
+  pub echo : Bool
+
 pub record ConnState : Type 0 where
   pub asking : Asking
   -- the first ask was given, and not answered yet
   pub given : Bool
+  -- what is lent, where nothing stands to be asked, a line has to come next, and the client is not
+  -- told of what is done
+  pub lends : Option Lends

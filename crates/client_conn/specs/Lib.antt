@@ -8,6 +8,8 @@ pub mod Asks
 pub mod Laws
 -- a client's stream, read item by item
 pub mod Streams
+-- publications that a connection lends: their payloads stand where they were read
+pub mod Lent
 -- what a connection reads of a source
 pub mod Feeding
 -- what a connection is once the ask that it lent is no longer borrowed

@@ -21,6 +21,8 @@ ghost use Rattle.client_conn.specs.Streams.{end_of, longer, IsInStep, IsBehindLi
 ghost use Rattle.std.specs.Borrow.{sem};
 ghost use Rattle.client_conn.specs.Shown.{Stays};
 
+mod lending;
+
 use crate::ask::{ClientAction, Refusal};
 use crate::faults::ReadFault;
 use client_frames::{
@@ -644,6 +646,7 @@ pub struct Conn {
 impl Model for Conn {
     ghost use Rattle.std.specs.Prelude.{not};
     ghost use Rattle.client_conn.specs.Asks.{ConnState, no_asks};
+    ghost use Rattle.client_conn.specs.Lent.{lends_at};
     ghost use Rattle.client_conn.specs.Streams.{IsInStep, end_of, asking_at};
 
     ghost Value = { ConnState };
@@ -651,6 +654,7 @@ impl Model for Conn {
     ghost view = { λ c. record {
       asking = asking_at c.open_asks (end_of c.reader);
       given = not (no_asks c.open_asks.asks);
+      lends = lends_at c.open_asks (end_of c.reader);
     } };
 
     ghost invariant = { λ c. IsInStep c.reader };

@@ -1,6 +1,6 @@
 //! The two ends of a lane.
 
-ghost use Rattle.std.specs.Prelude.{◌≡◌, ◌+◌, ◌<◌, ◌≤◌, List, [], ◌++◌, length, None, IfOk, IfSome, IfNone, OnOk, IfErr, MatchOption};
+ghost use Rattle.std.specs.Prelude.{◌≡◌, ◌+◌, ◌<◌, ◌≤◌, List, [], ◌++◌, length, slice_get, None, IfOk, IfSome, IfNone, OnOk, IfErr, MatchOption};
 ghost use Rattle.job_lane.specs.Ends.{ArePopped, HadRoom, IsPopped, LackedRoom, from_hand};
 ghost use Rattle.job_lane.specs.Runs.{jobs_of};
 ghost use Rattle.job_lane.specs.Turns.{AreNumbered, AreNumberedBehind};
@@ -9,6 +9,7 @@ use crate::counts::Count;
 use crate::rule::{Ends, RunPass, RunQueue};
 use crate::runs::Run;
 use crate::steps::{behind_first, drain, has_room, leave, push_by, take_next};
+use job_block::JobSlice;
 use std::alloc::{AllocError, Global};
 use std::marker::Model;
 use std::sync::{Arc, Wait};
@@ -144,7 +145,7 @@ impl LaneIn {
             × (self.new.pushed ≡ self.old.pushed)
             × LackedRoom self.old.capacity self.old.pushed (length run)) }
     {
-        let jobs = run.jobs().len();
+        let jobs = run.len();
         if !has_room(rt, &self.queue, &mut self.pass, &mut self.count, jobs) {
             return Err(run);
         }
@@ -179,21 +180,32 @@ impl LaneOut {
         leave(&mut self.run, count);
     }
 
-    /// The job in hand, and the jobs of its run behind it, in order. None where no job is in hand.
-    pub fn waiting(&self) -> &[Job]
-        ensures { result.now ≡ from_hand self.now }
+    /// The job in hand, and the jobs of its run behind it, in order. None where no job is in hand. The job in hand is the one popped
+    /// last, until a call of [`LaneOut::pop`] finds none.
+    pub fn waiting(&self) -> Option<JobSlice<'_>>
+        ensures jobs { MatchOption result (from_hand self.now ≡ []) (λ jobs.
+            jobs ≡ from_hand self.now) }
+        ensures some { IfSome result (λ jobs. 0 < length jobs) }
+        ensures hand { IfSome result (λ jobs. slice_get jobs 0 ≡ self.now.hand) }
+        ensures none { IfNone result (self.now.hand ≡ None) }
     {
         match &self.run {
-            None => &[],
-            Some(run) => run.jobs(),
+            None => None,
+            Some(run) => Some(run.jobs()),
         }
     }
 
-    /// The job in hand: the one popped last, until a call of [`LaneOut::pop`] finds none.
-    pub fn in_hand(&self) -> Option<&Job>
-        ensures { MatchOption result (self.now.hand ≡ None) (λ job. self.now.hand ≡ Some job.now) }
+    /// A copy of the job in hand, where one is.
+    pub fn hand_copy(&self, alloc: Global) -> Result<Option<Job>, AllocError>
+        ensures { IfOk result (λ job. job ≡ self.now.hand) }
     {
-        self.run.as_ref().map(Run::first)
+        match self.waiting() {
+            None => Ok(None),
+            Some(jobs) => {
+                let job = jobs.get(0).to_job(alloc)?;
+                Ok(Some(job))
+            }
+        }
     }
 }
 

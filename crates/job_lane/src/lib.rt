@@ -2,10 +2,10 @@
 //!
 //! ```text
 //! let (mut near, mut far) = lane(alloc, LANE_CAPACITY)?;
-//! let run = Run::new(alloc, jobs).ok().ok_or("memory")?;
+//! let run = Run::new(alloc, block).ok().ok_or("memory")?;
 //! let is_pushed = near.push(rt, run).is_ok();
 //! let turn = far.pop(rt);
-//! let job = far.in_hand();
+//! let jobs = far.waiting();
 //! ```
 //!
 //! In reading order: `runs` is what a lane carries, `ends` its two ends; `rule`, `steps` and `counts` are what its queue keeps.

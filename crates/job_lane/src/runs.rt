@@ -1,12 +1,12 @@
 //! Runs of jobs.
 
-ghost use Rattle.std.specs.Prelude.{◌≡◌, ◌<◌, ◌≤◌, ◌∷◌, true, false, length, drop, IfOk, IfErr};
+ghost use Rattle.std.specs.Prelude.{◌≡◌, ◌<◌, ◌≤◌, true, false, length, drop, IfOk, IfErr};
 ghost use Rattle.job_lane.specs.Runs.{GoesOn};
 
+use job_block::{JobBlock, JobSlice};
 use std::alloc::{AllocError, Global};
 use std::marker::Model;
 use std::sync::Arc;
-use subj::Job;
 
 /// One or more jobs that were made one behind another. Each lane that they are handed to shares them.
 /// (Profile.)
@@ -14,7 +14,7 @@ use subj::Job;
 /// Seen as the list of the jobs.
 #[derive(Drop)]
 pub struct Run {
-    block: Arc<Vec<Job>, Global>,
+    block: Arc<JobBlock, Global>,
     /// How many jobs of the block stand before those of the run.
     before: usize,
 }
@@ -26,19 +26,19 @@ impl Model for Run {
 
     ghost Value = { List Job };
 
-    ghost view = { λ run. drop run.before (arc_value run.block).items };
+    ghost view = { λ run. drop run.before (arc_value run.block).jobs };
 
-    ghost invariant = { λ run. run.before < length (arc_value run.block).items };
+    ghost invariant = { λ run. run.before < length (arc_value run.block).jobs };
 }
 
 impl Run {
-    /// A run of these jobs. Required: there is one at least. Where there is no memory they come back.
-    pub fn new(alloc: Global, jobs: Vec<Job>) -> Result<Run, Vec<Job>>
-        requires { 0 < length jobs.items }
-        ensures ok { IfOk result (λ run. run ≡ jobs.items) }
-        ensures err { IfErr result (λ back. back.items ≡ jobs.items) }
+    /// A run of the jobs of this block. Required: there is one at least. Where there is no memory the block comes back.
+    pub fn new(alloc: Global, block: JobBlock) -> Result<Run, JobBlock>
+        requires { 0 < length block.jobs }
+        ensures ok { IfOk result (λ run. run ≡ block.jobs) }
+        ensures err { IfErr result (λ back. back ≡ block) }
     {
-        match Arc::new(alloc, jobs) {
+        match Arc::new(alloc, block) {
             Ok(block) => Ok(Run { block, before: 0 }),
             Err(failed) => Err(failed.value),
         }
@@ -56,18 +56,19 @@ impl Run {
     }
 
     /// The jobs, in order.
-    pub fn jobs(&self) -> &[Job]
-        ensures same { result.now ≡ self.now }
+    pub fn jobs(&self) -> JobSlice<'_>
+        ensures same { result ≡ self.now }
         ensures some { 0 < length self.now }
     {
-        &self.block.as_slice()[self.before..]
+        JobSlice::from(&self.block, self.before)
     }
 
-    /// The first job.
-    pub(crate) fn first(&self) -> &Job
-        ensures { (jobs : _) × (self.now ≡ result.now ∷ jobs) }
+    /// How many jobs it has.
+    pub(crate) fn len(&self) -> usize
+        ensures same { result ≡ length self.now }
+        ensures some { 0 < result }
     {
-        &self.block[self.before]
+        self.jobs().len()
     }
 
     /// Leaves its first job behind where there is another: whether it did.
@@ -75,11 +76,11 @@ impl Run {
         ensures more { result ≡ true → GoesOn self.old self.new }
         ensures last { result ≡ false → (self.new ≡ self.old) × (length self.old ≡ 1) }
     {
-        let next = self.before + 1;
-        if next >= self.block.len() {
+        let last = self.block.len() - 1;
+        if self.before >= last {
             return false;
         }
-        self.before = next;
+        self.before += 1;
         true
     }
 
@@ -88,6 +89,8 @@ impl Run {
         requires { count ≤ length (drop 1 self.old) }
         ensures { self.new ≡ drop count self.old }
     {
+        // so many jobs there are, and as many can be counted
+        let _len = self.block.len();
         self.before += count;
     }
 }

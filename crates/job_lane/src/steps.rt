@@ -97,8 +97,8 @@ pub fn leave(run: &mut Option<Run>, count: usize)
 fn first_turn(run: &Option<Run>) -> Option<Turn>
     ensures { IsFirstTurn run.now result }
 {
-    let job = run.as_ref()?.first();
-    Some(job.turn)
+    let jobs = run.as_ref()?.jobs();
+    Some(jobs.get(0).turn())
 }
 
 /// Takes the next job of the run into hand, or the first one of the run that waits behind it: its turn.

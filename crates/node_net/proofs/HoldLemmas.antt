@@ -1,5 +1,5 @@
 -- Runs of calls, seen at what is held instead of at what counts them.
-use Rattle.std.proofs.Common.{◌≡◌, ℕ, ◌+◌, ◌≤◌, Bool, true, List, [], ◌∷◌, ◌++◌, length, None, Result, Ok, Err, refl, sym, ap, ◌∙◌, subst, arith, inl, inr, length-append}
+use Rattle.std.proofs.Common.{◌≡◌, ℕ, ◌+◌, ◌≤◌, ◌<◌, Bool, true, List, [], ◌∷◌, ◌++◌, length, None, Result, Ok, Err, refl, sym, ap, ◌∙◌, subst, arith, inl, inr, length-append}
 use Rattle.std.proofs.lemmas.List.{map-append}
 use Rattle.std.specs.Prelude.{IfOk, OnErr, map}
 use Rattle.std.specs.declared.alloc.AllocError.{AllocError}
@@ -7,9 +7,14 @@ use Rattle.client_conn.specs.Asks.{Asking}
 use Rattle.client_conn.specs.declared.ask.ClientAction.TheVariants as action
 use Rattle.client_calls.specs.Calls.{Called, asked, Chain}
 use Rattle.client_calls.specs.Serving.{HasServed, HasBegun}
+use Rattle.client_calls.specs.Runs.{HasPublished, published_by}
 use Rattle.client_calls.specs.declared.outcome.Outcome.{Outcome}
+use Rattle.client_calls.specs.declared.outcome.Outcome.TheVariants.{Done}
 use Rattle.client_calls.specs.declared.outcome.Served.{Served}
 use Rattle.net_streams.specs.Writes.{Came}
+use Rattle.publication_runs.specs.Lent.{LentState}
+use Rattle.server_calls.specs.Runs.{HasPublishedRun, PublishesEach}
+use Rattle.subj.specs.declared.messages.Pub.{Pub}
 use Rattle.node_net.specs.Holds.{served_or_short, next_place, ran_of, Serves, RunsTo, OnlyIfPublished, Pops, ClosesInTurn, Closes, LinkLeaves, LeavesAndSends}
 use Rattle.node_net.specs.Sending.{Sends}
 use Rattle.node_net.specs.declared.connection.Connection.{Connection}
@@ -93,6 +98,56 @@ none_published made hub empty each conn most result old x new y ok err is = go r
       → hub y ≡ hub x
   go (Ok s) ok err = (chain_empty made hub empty each x ok.calls y ok.chain is).1
   go (Err lack) ok err = (chain_empty made hub empty each x err.calls y err.chain is).1
+
+-- ---- publications that are lent
+
+-- Publications that a hub publishes one after the other are calls of what counts them, where each is.
+chain_each : {A H : Type 0} (made : A → Called → A → Type 0) (published : H → ℕ → Pub → ℕ → Outcome → H → Type 0)
+    (conn : ℕ) (at : H → A)
+    → ((g : H) (p : Pub) (h : H) → ((word : ℕ) → published g conn p word Done h)
+    → made (at g) (published_by conn p) (at h))
+    → (ps : List Pub) (before after : H)
+    → PublishesEach published conn ps before after
+    → Chain made (at before) (map (published_by conn) ps) (at after)
+chain_each made published conn at each [] before after same = ap at same
+chain_each made published conn at each (p ∷ ps) before after e = (
+  at e.0,
+  each before p e.0 e.1,
+  chain_each made published conn at each ps e.0 after e.2,
+)
+
+chain_some : {A H : Type 0} (made : A → Called → A → Type 0) (published : H → ℕ → Pub → ℕ → Outcome → H → Type 0)
+    (conn : ℕ) (x : A) (before : H) (at : H → A)
+    → ((p : Pub) (h : H) → ((word : ℕ) → published before conn p word Done h) → made x (published_by conn p) (at h))
+    → ((g : H) (p : Pub) (h : H) → ((word : ℕ) → published g conn p word Done h)
+    → made (at g) (published_by conn p) (at h))
+    → (ps : List Pub) (after : H)
+    → 0 < length ps
+    → PublishesEach published conn ps before after
+    → Chain made x (map (published_by conn) ps) (at after)
+chain_some made published conn x before at first each [] after some e = absurd (omega arith)
+chain_some made published conn x before at first each (p ∷ ps) after some e = (
+  at e.0,
+  first p e.0 e.1,
+  chain_each made published conn at each ps e.0 after e.2,
+)
+
+-- A run of publications at a hub, seen at what counts them, which is so behind each of them.
+pub run_published : {A H : Type 0} (made : A → Called → A → Type 0) (published : H → ℕ → Pub → ℕ → Outcome → H → Type 0)
+    (conn count : ℕ) (from to : LentState) (x : A) (before : H) (at : H → A) (after : H)
+    → ((p : Pub) (h : H) → ((word : ℕ) → published before conn p word Done h) → made x (published_by conn p) (at h))
+    → ((g : H) (p : Pub) (h : H) → ((word : ℕ) → published g conn p word Done h)
+    → made (at g) (published_by conn p) (at h))
+    → 0 < count
+    → HasPublishedRun published conn count from to before after
+    → HasPublished made conn count from to x (at after)
+run_published made published conn count from to x before at after first each some run = record {
+  publications = run.publications;
+  counted = run.counted;
+  given = run.given;
+  chain = chain_some made published conn x before at first each run.publications after
+      (subst (λ n. 0 < n) (sym run.counted) some) run.each;
+}
 
 -- ---- closings
 

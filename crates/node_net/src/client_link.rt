@@ -16,6 +16,7 @@ use crate::runs::{Ran, RunOutcome, cost_of};
 use client_calls::{ClientCalls, ClientLink as Calls, Outcome, Served};
 use client_conn::{ReadFault, Refusal};
 use client_frames::{ErrText, ReplyFrame, ServerInfo};
+use publication_runs::LentRun;
 use rand_core::utils::NextWord;
 use rand_pcg::Pcg64;
 use server_calls::{HubCalls, ServerCalls, ShardCalls};
@@ -176,8 +177,19 @@ impl<S: ShardCalls> ClientCalls for ShardTally<S> {
         self.shard.publish(conn, publication)
     }
 
+    fn publish_run(&mut self, _conn: ConnId, _run: &mut LentRun<'_>) -> u64 {
+        0
+    }
+
     fn detach(&mut self, conn: ConnId) -> Result<(), AllocError> {
         self.shard.detach(conn)
+    }
+}
+
+/// Draws so many words that are not used: each publication takes one, so that the words of the others do not depend on what is lent.
+fn skip_words(words: &mut Pcg64, count: u64) {
+    for _word in 0..count {
+        let _unused = words.next_word();
     }
 }
 
@@ -248,6 +260,17 @@ impl<H: HubCalls> ClientCalls for HubTally<H> {
         self.so_far.count(issued_by(publication, outcome));
         self.so_far.is_empty = false;
         outcome
+    }
+
+    fn publish_run(&mut self, conn: ConnId, run: &mut LentRun<'_>) -> u64 {
+        let count = self.hub.publish_run(conn, run);
+        if count == 0 {
+            return 0;
+        }
+        skip_words(&mut self.words, count);
+        self.so_far.count_run(count, run.payload_bytes());
+        self.so_far.is_empty = false;
+        count
     }
 
     fn detach(&mut self, _conn: ConnId) -> Result<(), AllocError> {

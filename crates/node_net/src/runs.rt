@@ -1,6 +1,6 @@
 //! What a link has come to, after a run of what it asks.
 
-ghost use Rattle.std.specs.Prelude.{◌≡◌};
+ghost use Rattle.std.specs.Prelude.{◌≡◌, ◌<◌, ◌^◌, ◌+◌, ◌-◌, min};
 
 use crate::limits::MESSAGE_COST;
 
@@ -70,5 +70,16 @@ impl RunOutcome {
             self.issued = self.issued.saturating_add(bytes);
             self.jobs = self.jobs.saturating_add(1);
         }
+    }
+
+    /// So many messages were handed to the shards, which have so many bytes together.
+    pub fn count_run(&mut self, count: u64, bytes: usize)
+        ensures end { self.new.end ≡ self.old.end }
+        ensures jobs { self.new.jobs ≡ min (self.old.jobs + count) (2 ^ 64 - 1) }
+        ensures issued { 0 < count → 0 < self.new.issued }
+    {
+        let cost = MESSAGE_COST.saturating_mul(count as usize);
+        self.issued = self.issued.saturating_add(bytes).saturating_add(cost);
+        self.jobs = self.jobs.saturating_add(count);
     }
 }

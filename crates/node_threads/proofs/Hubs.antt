@@ -2,4 +2,5 @@
 pub mod HubCalls
 pub mod Publishing
 pub mod Receiving
+pub mod Running
 pub mod Parts

@@ -16,3 +16,5 @@ pub mod AtHub
 pub mod Parts
 -- what is kept in writing of what was done under a lock
 pub mod Tapes
+-- publications that a hub issues one after the other
+pub mod HubRuns

@@ -25,11 +25,7 @@ abbrev pub jobs_handed : Option (List Job) → List Job → List LaneSender → 
 jobs_handed run unsent [] = []
 jobs_handed run unsent (line ∷ lines) = jobs_handed_to run unsent line
 
--- all jobs that the shards are handed, and how many more there is room for
-pub record Outlet : Type 0 where
-  pub jobs : List Job
-  pub room : ℕ
-
+-- what a hub keeps of them
 pub record IsOutlet (run : Option (List Job)) (unsent : List Job) (lines : List LaneSender) :
     Type 0 where
   pub some : 0 < length lines

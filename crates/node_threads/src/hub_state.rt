@@ -1,12 +1,15 @@
 //! What stands under the lock of the hub: its ends of the lanes, the jobs on their way to these, and its state.
 
-ghost use Rattle.std.specs.Prelude.{◌≡◌, ◌-◌, ◌++◌, true, false, Some, [], slice_get, ◌+◌, ◌<◌, ◌∷◌, All, length, map, OnOk, None, ⊤, IfOk};
+ghost use Rattle.std.specs.Prelude.{◌≡◌, ◌-◌, ◌++◌, true, false, Some, [], slice_get, ◌+◌, ◌<◌, ◌∷◌, All, length, map, OnOk, OnErr, None, ⊤, IfOk, if◌then◌else◌};
+ghost use Rattle.job_block.specs.Blocks.{IsLast, job_of as job_by, turn_behind};
 ghost use Rattle.job_lane.specs.Turns.{AreNumbered};
+ghost use Rattle.node_threads.specs.HubRuns.{IssuesRun};
 ghost use Rattle.node_threads.specs.Outlets.{jobs_owed, AreFirst};
 ghost use Rattle.subj.specs.Answers.{IsAnswered, IsDecided};
 ghost use Rattle.claim_cells.specs.Calls.{IsLooked};
 ghost use Rattle.claim_cells.specs.Rule.{fresh_hub};
-ghost use Rattle.hub_core.specs.Chosen.{IsPlanOf, publication_by};
+ghost use Rattle.hub_core.specs.Chosen.{IsPlanOf, publication_by, turn_refusal};
+ghost use Rattle.hub_core.specs.Plain.{OwesPlainJob, behind_plain};
 ghost use Rattle.hub_core.specs.Calls.{job_of};
 ghost use Rattle.hub_core.specs.Events.{Receive, Drain, Drained, TakeFrom, Heard as WasHeard, Taken};
 ghost use Rattle.hub_core.specs.Publishing.{publish_refusal};
@@ -22,8 +25,10 @@ use crate::node_name::NodeName;
 use crate::shard_state::ShardState;
 use claim_cells::{Cells, HubSeat};
 use hub_core::{CollectResult, HubFault, PublishPlan};
+use job_block::{JobBlock, LentJob, LentPub, Origin};
 use job_lane::{LaneIn, Run};
 use node_parts::{HubWithSessions, Issued, Received, is_message};
+use publication_runs::LentRun;
 use route_session::{Kept, SessionFault, SessionId};
 use route_values::{Numbered, RouteConnect, RouteInfo};
 use std::alloc::{AllocError, Global};
@@ -131,21 +136,19 @@ struct Outlet<N: NodeName> {
     alloc: Global,
     lines: Vec<LaneSender<N>>,
     run: Option<Run>,
-    unsent: Vec<Job>,
+    unsent: JobBlock,
 }
 
 impl<N: NodeName> Model for Outlet<N> {
-    ghost use Rattle.std.specs.Prelude.{◌-◌, vec_len, vec_capacity};
-    ghost use Rattle.node_threads.specs.Outlets.{Outlet, IsOutlet, jobs_handed};
+    ghost use Rattle.std.specs.Prelude.{List};
+    ghost use Rattle.subj.specs.declared.jobs.Job.{Job};
+    ghost use Rattle.node_threads.specs.Outlets.{IsOutlet, jobs_handed};
 
-    ghost Value = { Outlet };
+    ghost Value = { List Job };
 
-    ghost view = { λ s. record {
-      jobs = jobs_handed s.run s.unsent.items s.lines.items;
-      room = vec_capacity s.unsent - vec_len s.unsent;
-    } };
+    ghost view = { λ s. jobs_handed s.run s.unsent.jobs s.lines.items };
 
-    ghost invariant = { λ s. IsOutlet s.run s.unsent.items s.lines.items };
+    ghost invariant = { λ s. IsOutlet s.run s.unsent.jobs s.lines.items };
 }
 
 /// Whether each lane has the run that is handed out.
@@ -196,41 +199,102 @@ fn begin_all<N: NodeName>(lines: &mut Vec<LaneSender<N>>)
     begin_each(lines.as_mut_slice());
 }
 
+/// The next job of the block has this turn. Required: it has, where there is one already.
+fn begin_at(block: &mut JobBlock, turn: Turn)
+    requires { 0 < length block.old.jobs → turn_behind block.old ≡ turn }
+    ensures { (block.new.jobs ≡ block.old.jobs) × (turn_behind block.new ≡ turn) }
+{
+    if block.is_empty() {
+        block.clear(turn);
+    }
+}
+
+/// Whether a run goes on behind the job with what this connection publishes so.
+fn goes_on(last: &LentJob<'_>, conn: ConnId, run: &LentRun<'_>) -> bool
+    ensures { result ≡ true
+        → (last.now.message.subject ≡ run.now.subject)
+        × (last.now.publisher ≡ Some conn)
+        × (last.now.echo ≡ run.now.echo) }
+{
+    if !last.queues().as_slice().is_empty() || last.publisher() != Some(conn) {
+        return false;
+    }
+    last.echo() == run.echo() && last.subject() == run.subject().bytes()
+}
+
 impl<N: NodeName> Outlet<N> {
     /// The lanes, one a shard, to which nothing was pushed.
     fn new(alloc: Global, lines: Vec<LaneSender<N>>) -> Outlet<N>
         requires some { 0 < length lines.items }
         requires fresh { All (λ line. line.pushed ≡ []) lines.items }
-        ensures { result.jobs ≡ [] }
+        ensures { result ≡ [] }
     {
         Outlet {
             alloc,
             lines,
             run: None,
-            unsent: Vec::new(alloc),
+            unsent: JobBlock::empty(alloc, Turn::zero()),
         }
     }
 
-    /// Makes room for one more job.
-    fn reserve(&mut self) -> Result<(), AllocError>
-        ensures same { self.new.jobs ≡ self.old.jobs }
-        ensures room { OnOk result (0 < self.new.room) }
+    /// Hands the next job to the shards, which share its message. Want of memory leaves all as it was.
+    fn add(&mut self, job: Job) -> Result<(), AllocError>
+        requires turn { job.turn ≡ length self.old + 1 }
+        ensures ok { OnOk result (self.new ≡ self.old ++ job ∷ []) }
+        ensures err { OnErr result (self.new ≡ self.old) }
     {
-        self.unsent.reserve(1)
+        let _numbered = self.unsent.first_turn();
+        begin_at(&mut self.unsent, job.turn);
+        let Job {
+            id,
+            message,
+            publisher,
+            echo,
+            queues,
+            ..
+        } = job;
+        let origin = Origin {
+            id,
+            publisher,
+            echo,
+        };
+        self.unsent.push_message(message, origin, queues)
     }
 
-    /// Hands the next job to the shards. Takes no memory.
-    fn add(&mut self, job: Job)
-        requires room { 0 < self.old.room }
-        requires turn { job.turn ≡ length self.old.jobs + 1 }
-        ensures { self.new.jobs ≡ self.old.jobs ++ job ∷ [] }
+    /// Hands the next job, which is of a publication that no queue name wants, to the shards. Want of memory leaves all as it was.
+    /// Required: a run goes on with it ([`Outlet::is_on`]).
+    fn add_next(
+        &mut self,
+        turn: Turn,
+        origin: Origin,
+        publication: &LentPub<'_>,
+    ) -> Result<(), AllocError>
+        requires turn { turn ≡ length self.old + 1 }
+        requires last { IsLast origin.publisher publication.now.message.subject origin.echo
+            self.old }
+        ensures ok { OnOk result
+            (self.new ≡ self.old ++ job_by origin turn publication.now.message [] ∷ []) }
+        ensures err { OnErr result (self.new ≡ self.old) }
     {
-        self.unsent.push_reserved(job);
+        let _numbered = self.unsent.first_turn();
+        begin_at(&mut self.unsent, turn);
+        self.unsent.push_next(&publication.parts(), origin)
+    }
+
+    /// Whether a run goes on with what this connection publishes on this subject, behind the last job that is not in a run. Then a shard
+    /// mostly delivers them at once, as they stand in their block.
+    fn is_on(&self, conn: ConnId, run: &LentRun<'_>) -> bool
+        ensures { result ≡ true → IsLast (Some conn) run.now.subject run.now.echo self.now }
+    {
+        match self.unsent.last() {
+            None => false,
+            Some(last) => goes_on(&last, conn, run),
+        }
     }
 
     /// Pushes what is not pushed yet, oldest first, as far as lanes have room and there is memory.
     fn push_all<R: Wait>(&mut self, rt: &R)
-        ensures { self.new.jobs ≡ self.old.jobs }
+        ensures { self.new ≡ self.old }
     {
         self.offer(rt);
         self.begin_run();
@@ -239,7 +303,7 @@ impl<N: NodeName> Outlet<N> {
 
     /// Pushes the run that is handed out to the lanes that do not have it.
     fn offer<R: Wait>(&mut self, rt: &R)
-        ensures { self.new.jobs ≡ self.old.jobs }
+        ensures { self.new ≡ self.old }
     {
         let Some(run) = &self.run else {
             return;
@@ -253,16 +317,17 @@ impl<N: NodeName> Outlet<N> {
 
     /// Makes a run of the jobs that are not in one, where all lanes have the last one.
     fn begin_run(&mut self)
-        ensures { self.new.jobs ≡ self.old.jobs }
+        ensures { self.new ≡ self.old }
     {
         if self.run.is_some() || self.unsent.is_empty() {
             return;
         }
-        let jobs = std::mem::replace(&mut self.unsent, Vec::new(self.alloc));
-        let run = match Run::new(self.alloc, jobs) {
+        let next = self.unsent.empty_like();
+        let block = std::mem::replace(&mut self.unsent, next);
+        let run = match Run::new(self.alloc, block) {
             Ok(run) => run,
-            Err(jobs) => {
-                self.unsent = jobs;
+            Err(block) => {
+                self.unsent = block;
                 return;
             }
         };
@@ -272,7 +337,7 @@ impl<N: NodeName> Outlet<N> {
 
     /// The ends of the lanes.
     fn into_lines(self) -> Vec<LaneSender<N>>
-        ensures { All (λ line. AreFirst line.pushed self.jobs) result.items }
+        ensures { All (λ line. AreFirst line.pushed self) result.items }
     {
         let Outlet { lines, .. } = self;
         lines
@@ -301,10 +366,10 @@ impl<N: NodeName> Model for HubState<N> {
 
     ghost Value = { AtHub };
 
-    ghost view = { λ s. hub_at s.side s.seat.part s.finished s.outlet.jobs };
+    ghost view = { λ s. hub_at s.side s.seat.part s.finished s.outlet };
 
     ghost invariant = { λ s.
-        IsAtHub N.race.shards (hub_at s.side s.seat.part s.finished s.outlet.jobs)
+        IsAtHub N.race.shards (hub_at s.side s.seat.part s.finished s.outlet)
         × (s.seat.race ≡ N.race) };
 }
 
@@ -420,21 +485,83 @@ impl<N: NodeName> HubState<N> {
             self.new }
     {
         let PublishPlan { job, frames } = self.plan_publish(cells, conn, publication, word)?;
-        let Ok(()) = self.outlet.reserve() else {
-            return Err(Failure::OutOfMemory);
-        };
         let told = Issued {
             turn: job.turn,
             frames: frames.len(),
         };
         let _in_order = job.queues.as_slice();
+        let Ok(()) = self.outlet.add(job) else {
+            return Err(Failure::OutOfMemory);
+        };
         self.side.commit_publish(frames);
         let Ok(_) = cells.issue(&mut self.seat) else {
             // the plan was not refused as busy, by the loads that the seat keeps
             unreachable!()
         };
-        self.outlet.add(job);
         Ok(told)
+    }
+
+    /// Issues publications of the connection that are lent, one after the other, as [`HubState::publish`] does, as far as each owes a job to
+    /// the server's own shards and nothing else, whatever its word. No message is made of any. Gives how many; nothing was done of the
+    /// next: where a shard is a window behind, where the numbers are spent, and for want of memory. 0 where a run does not go on with
+    /// them. Required: the race of this server.
+    pub fn publish_run(&mut self, cells: &Cells, conn: ConnId, run: &mut LentRun<'_>) -> u64
+        requires { cells.now ≡ N.race }
+        ensures { IssuesRun N.race.shards conn result run.old run.new self.old self.new }
+    {
+        if !self.outlet.is_on(conn, run) {
+            return 0;
+        }
+        if run.peek().is_none() {
+            return 0;
+        }
+        if !self.side.hub().owes_plain_job(run.subject()) {
+            return 0;
+        }
+        let free = self.side.hub().turns_free(&self.finished);
+        for count in 0..free {
+            if !self.issue_next(cells, conn, run) {
+                return count;
+            }
+        }
+        free
+    }
+
+    /// Issues the next publication that is lent. Whether it did; where not, all is as it was. Required: a turn is free.
+    #[inline(always)]
+    fn issue_next(&mut self, cells: &Cells, conn: ConnId, run: &mut LentRun<'_>) -> bool
+        requires race { cells.now ≡ N.race }
+        requires plain { OwesPlainJob self.old.side.server self.old.side.hub run.old.subject }
+        requires free { turn_refusal self.old.side.server self.old.side.hub self.old.finished
+            ≡ None }
+        requires last { IsLast (Some conn) run.old.subject run.old.echo self.old.issued }
+        ensures issues { IssuesRun N.race.shards conn (if result then 1 else 0) run.old run.new
+            self.old self.new }
+        ensures last { IsLast (Some conn) run.new.subject run.new.echo self.new.issued }
+        ensures same { (self.new.finished ≡ self.old.finished)
+            × (self.new.side.server ≡ self.old.side.server)
+            × (self.new.side.hub
+            ≡ (if result then behind_plain 1 self.old.side.hub else self.old.side.hub)) }
+    {
+        let Some(ahead) = run.peek() else {
+            return false;
+        };
+        let Some(turn) = self.side.hub().issued().next() else {
+            // required: a turn is free
+            unreachable!()
+        };
+        let origin = Origin {
+            id: self.side.hub().next_id(),
+            publisher: Some(conn),
+            echo: run.echo(),
+        };
+        let Ok(()) = self.outlet.add_next(turn, origin, &ahead.publication) else {
+            return false;
+        };
+        run.pass(&ahead);
+        self.side.commit_plain();
+        cells.issue_shown(&mut self.seat);
+        true
     }
 
     /// The job of a message; the hub looks at the shards where it must.
@@ -468,18 +595,17 @@ impl<N: NodeName> HubState<N> {
         let planned = self.plan_message(cells, frame)?;
         // a frame that is a message has a job
         let Some(job) = planned else { unreachable!() };
-        let Ok(()) = self.outlet.reserve() else {
-            return Err(Failure::OutOfMemory);
-        };
         self.side.is_listed();
         let _in_order = job.queues.as_slice();
         let turn = job.turn;
+        let Ok(()) = self.outlet.add(job) else {
+            return Err(Failure::OutOfMemory);
+        };
         self.side.take_message(frame);
         let Ok(_) = cells.issue(&mut self.seat) else {
             // the plan was not refused as busy, by the loads that the seat keeps
             unreachable!()
         };
-        self.outlet.add(job);
         Ok(turn)
     }
 

@@ -1,6 +1,6 @@
 //! What stands under the lock of a shard: its state, the calls that its connections make, its turns, the jobs that it drops, and its end.
 
-ghost use Rattle.std.specs.Prelude.{◌≡◌, ◌-◌, ◌≤◌, [], None, Some, IfOk, IfSome, IfNone, slice_get, option_to_list, true, false, is_some, nat_lt, OnOk, OnErr};
+ghost use Rattle.std.specs.Prelude.{◌≡◌, ◌-◌, ◌≤◌, [], ◌∷◌, None, Some, IfOk, IfSome, IfNone, slice_get, option_to_list, true, false, is_some, nat_lt, OnOk, OnErr};
 ghost use Rattle.subj.specs.Answers.{IsAnswered, IsDecided};
 ghost use Rattle.subj.specs.declared.limits.TheConstants.{MAX_SHARDS};
 ghost use Rattle.claim_cells.specs.Rule.{newcomer};
@@ -10,7 +10,7 @@ ghost use Rattle.shard_core.specs.Shards.{is_open as opened};
 ghost use Rattle.shard_core.specs.ShardSteps.{shard_refusal};
 ghost use Rattle.node_threads.specs.AtWork.{Does, TakesBytes, at_start, Makes, HasDone};
 ghost use Rattle.claim_cells.specs.Seats.{last_load};
-ghost use Rattle.node_threads.specs.Tapes.{Tells};
+ghost use Rattle.node_threads.specs.Tapes.{Grows, Tells, begin_entry};
 ghost use Rattle.node_threads.specs.Turns.{ClaimsOne, DeliversFirst, HasEnded, HasNone, HasTried, HasWorked, MayBegin, MayClaim, Turns, Drops, HasDropped};
 
 use crate::gates::Gate;
@@ -21,6 +21,7 @@ use crate::tape::Tape;
 use crate::turned::Turned;
 use claim_cells::{Cells, ShardSeat};
 use client_frames::{ErrText, ReplyFrame};
+use job_block::JobSlice;
 use job_lane::LaneOut;
 use outbox::Entry;
 use shard_core::{
@@ -39,6 +40,7 @@ use subj::{ConnId, Delta, Failure, Job, Key, Sid, SubId, Turn};
 /// it popped, in order, and its seat won and lost just what these steps say.
 #[derive(Drop)]
 pub struct ShardState<T: SubTable, N: NodeName> {
+    alloc: Global,
     shard: Shard<T>,
     seat: ShardSeat,
     lane: LaneOut,
@@ -75,7 +77,7 @@ fn tell<G: Gate>(gate: &G, seat: &ShardSeat, turn: Turn, index: u64)
 
 /// Delivers as many of these jobs at once as it can, from the first on and at most so many. Gives how
 /// many; 0 also where there are fewer than two, and for want of memory.
-fn deliver_first<T: SubTable>(shard: &mut Shard<T>, jobs: &[Job], most: u64) -> usize
+fn deliver_first<T: SubTable>(shard: &mut Shard<T>, jobs: &JobSlice<'_>, most: u64) -> usize
     ensures most { result ≤ most }
     ensures delivers { DeliversFirst jobs.now result shard.old.state shard.new.state }
 {
@@ -83,7 +85,18 @@ fn deliver_first<T: SubTable>(shard: &mut Shard<T>, jobs: &[Job], most: u64) -> 
     if most < 2 {
         return 0;
     }
-    shard.deliver_run(&jobs[..most]).unwrap_or(0)
+    shard.deliver_run(&jobs.first(most)).unwrap_or(0)
+}
+
+/// Writes down that the job in hand was begun, and which messages were placed then. Nothing where none is in hand.
+fn note_begun<T: SubTable>(tape: &mut Tape<ShardEntry>, shard: &Shard<T>, placed: Placements)
+    ensures { (job : _)
+        → shard.now.state.hand ≡ Some job
+        → Grows tape.old (begin_entry job placed ∷ []) tape.new }
+{
+    if let Some(job) = shard.hand() {
+        note_begin(tape, job, placed);
+    }
 }
 
 impl<T: SubTable, N: NodeName> ShardState<T, N> {
@@ -104,6 +117,7 @@ impl<T: SubTable, N: NodeName> ShardState<T, N> {
     {
         let shard = Shard::new(alloc, seat.shard(), shards)?;
         Ok(ShardState {
+            alloc,
             shard,
             seat,
             lane,
@@ -297,8 +311,11 @@ impl<T: SubTable, N: NodeName> ShardState<T, N> {
         if !self.waits || tape.is_kept() {
             return None;
         }
-        let jobs = self.lane.waiting();
-        let count = deliver_first(&mut self.shard, jobs, self.seat.turns_seen());
+        let Some(jobs) = self.lane.waiting() else {
+            // the job in hand of the lane waits
+            unreachable!()
+        };
+        let count = deliver_first(&mut self.shard, &jobs, self.seat.turns_seen());
         if count == 0 {
             return None;
         }
@@ -387,15 +404,15 @@ impl<T: SubTable, N: NodeName> ShardState<T, N> {
         if self.shard.hand().is_some() {
             return Ok(());
         }
-        let Some(next) = self.lane.in_hand() else {
+        let copy = self.lane.hand_copy(self.alloc)?;
+        let Some(job) = copy else {
             // required: where no job is in hand, one was popped and waits
             unreachable!()
         };
-        let job = next.try_clone()?;
         match self.shard.begin(job, tape.is_kept()) {
             Err(_) => Err(AllocError),
             Ok(begun) => {
-                note_begin(tape, next, Placements::of(begun));
+                note_begun(tape, &self.shard, Placements::of(begun));
                 self.waits = false;
                 self.next_index = 0;
                 Ok(())
@@ -526,13 +543,7 @@ impl<T: SubTable, N: NodeName> ShardState<T, N> {
         if !self.waits {
             return Ok(None);
         }
-        match self.lane.in_hand() {
-            None => Ok(None),
-            Some(job) => {
-                let job = job.try_clone()?;
-                Ok(Some(job))
-            }
-        }
+        self.lane.hand_copy(self.alloc)
     }
 
     /// Drops the job in hand, or else the one that waits.

@@ -7,6 +7,7 @@ use golden::{
     Words, key_of, message_with, number, pattern_of, push_key, put, queues_of, sid_of, subject_of,
     tell, tell_number, tell_refusal, tell_whether,
 };
+use job_block::{JobBlock, JobSlice, Origin, PublicationParts};
 use pattern_trie::PatternTrie;
 use shard_core::{Candidate, DirtyConns, Shard, ShardFault, Subscribed, claims_are_whole};
 use std::alloc::Global;
@@ -367,39 +368,46 @@ fn work(answer: &mut String, stand: &mut Stand, alloc: Global, words: &Words<'_>
     end(answer, stand, "")
 }
 
-/// A job on foo in this turn, of no publisher, or of the one before a colon, for whom there is no echo. The rest of the word is its
-/// payload.
-fn job_in_run(alloc: Global, word: &str, turn: u64) -> Option<Job> {
+/// Puts a job on foo behind, of no publisher, or of the one before a colon, for whom there is no echo. The rest of the word is its
+/// payload. Every other job has its message apart.
+fn put_job(alloc: Global, block: &mut JobBlock, word: &str) -> Option<()> {
     let (publisher, payload) = word.split_once(':').unwrap_or(("", word));
-    let turn = Turn::new(turn)?;
+    let turn = block.next_turn()?;
+    let id = publication_of(1, turn.get())?;
+    let message = message_with(alloc, "foo", "", "", payload)?;
+    let queues = queues_of(alloc, "")??;
     let is_published = !publisher.is_empty();
-    Some(Job {
-        turn,
-        id: publication_of(1, turn.get())?,
-        message: message_with(alloc, "foo", "", "", payload)?,
+    let origin = Origin {
+        id,
         publisher: is_published.then_some(ConnId::new(number(publisher))),
         echo: !is_published,
-        queues: queues_of(alloc, "")??,
-    })
+    };
+    let put = if turn.get() % 2 == 0 {
+        block.push_message(message, origin, queues)
+    } else {
+        let parts = PublicationParts::of(&message);
+        block.push(&parts, origin, queues)
+    };
+    put.ok()
 }
 
 /// A job of each word, in turns from this one on.
-fn run_of(alloc: Global, words: &Words<'_>, next: u64) -> Option<Vec<Job>> {
-    let mut jobs = Vec::new(alloc);
+fn run_of(alloc: Global, words: &Words<'_>, next: u64) -> Option<JobBlock> {
+    let mut block = JobBlock::empty(alloc, Turn::new(next)?);
     for place in 0..MOST_JOBS {
         let word = words.at(place);
         if word.is_empty() {
-            return Some(jobs);
+            return Some(block);
         }
-        let turn = next.saturating_add(place as u64);
-        jobs.push(job_in_run(alloc, word, turn)?).ok()?;
+        put_job(alloc, &mut block, word)?;
     }
-    Some(jobs)
+    Some(block)
 }
 
 /// Delivers as many of some jobs at once as it can. Tells how many.
 fn deliver(answer: &mut String, stand: &mut Stand, alloc: Global, words: &Words<'_>) -> Option<()> {
-    let jobs = run_of(alloc, words, stand.turn)?;
+    let block = run_of(alloc, words, stand.turn)?;
+    let jobs = JobSlice::from(&block, 0);
     let count = stand.shard.deliver_run(&jobs).ok()? as u64;
     stand.turn = stand.turn.saturating_add(count);
     tell_number(answer, "at once ", count)

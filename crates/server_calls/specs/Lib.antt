@@ -1,2 +1,4 @@
 -- the calls that routes make of the hub
 pub mod Routed
+-- publications that a connection lends, published by a hub
+pub mod Runs

@@ -3,10 +3,12 @@
 ghost use Rattle.std.specs.Prelude.{ℕ};
 ghost use Rattle.subj.specs.declared.messages.Pub.{Pub};
 ghost use Rattle.client_calls.specs.declared.outcome.Outcome.{Outcome};
+ghost use Rattle.server_calls.specs.Runs.{HasPublishedRun};
 ghost use Rattle.server_calls.specs.Routed.{Routed, informed, connected, received, was_cut, took, taken_of};
 
 use client_calls::Outcome;
 use hub_core::HubFault;
+use publication_runs::LentRun;
 use route_session::{SessionFault, SessionId};
 use route_values::{Numbered, RouteConnect, RouteInfo};
 use std::sync::Wait;
@@ -27,6 +29,11 @@ pub trait HubCalls: Drop {
     /// [`Refusal::Busy`](client_conn::Refusal::Busy). [`HubCalls::push_jobs`] hands the job to the shards.
     fn publish(&mut self, conn: ConnId, publication: &Pub, word: u64) -> Outcome
         ensures { published self.old conn publication.now word result self.new };
+
+    /// The same of publications that are lent, one after the other, as far as each owes a job to the server's own shards and nothing
+    /// else, whatever its word. No message is made of any. Gives how many were done; nothing was done of the next.
+    fn publish_run(&mut self, conn: ConnId, run: &mut LentRun<'_>) -> u64
+        ensures { HasPublishedRun published conn result run.old run.new self.old self.new };
 
     /// Takes a frame of another server. [`HubCalls::push_jobs`] hands the job of a message to the shards.
     fn receive(&mut self, frame: &Numbered) -> Result<(), Failure<HubFault>>

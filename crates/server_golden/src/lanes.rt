@@ -1,14 +1,17 @@
 //! Lanes, with both ends, and the jobs that pass them: each tells its turn in all that can differ, and is known again by it.
 
-ghost use Rattle.std.specs.Prelude.{◌≡◌, length, IfSome};
+ghost use Rattle.std.specs.Prelude.{◌≡◌, length, IfSome, IsSome};
+ghost use Rattle.job_block.specs.Blocks.{turn_behind};
+ghost use Rattle.job_lane.specs.Ends.{from_hand};
 ghost use Rattle.job_lane.specs.Turns.{AreNumberedBehind};
 
 use bytes::Bytes;
 use golden::{Call, message_of, put, queues_of, text};
+use job_block::{JobBlock, JobSlice, LentJob, Origin, PublicationParts};
 use job_lane::{LaneIn, LaneOut, Run, lane, meet};
 use std::alloc::{AllocError, Global};
 use std::sync::Wait;
-use subj::{ConnId, Incarnation, Job, Message, NodeId, PubId, QueueName, Turn};
+use subj::{ConnId, Incarnation, Message, NodeId, PubId, QueueName, Turn};
 
 /// A message whose payload is the number.
 pub fn message(alloc: Global, number: u64) -> Option<Message> {
@@ -24,29 +27,35 @@ fn id(number: u64) -> Option<PubId> {
     })
 }
 
-/// A job that tells its turn in all that can differ.
-fn job(alloc: Global, turn: Turn) -> Option<Job>
-    ensures { IfSome result (λ job. job.turn ≡ turn) }
+/// Puts a job behind that tells its turn in all that can differ. The messages of odd turns are shared, and the others are copied into
+/// the block.
+fn put_job(alloc: Global, block: &mut JobBlock, turn: Turn) -> Option<()>
+    requires { turn_behind block.old ≡ turn }
+    ensures { IsSome result → block.new.first_turn ≡ block.old.first_turn }
 {
     let number = turn.get();
     let id = id(number)?;
     let queues = queues_of(alloc, "audit tasks")??;
     let message = message(alloc, number)?;
-    Some(Job {
-        turn,
+    let echo = number % 2 == 1;
+    let origin = Origin {
         id,
-        message,
         publisher: Some(ConnId::new(number)),
-        echo: number % 2 == 1,
-        queues,
-    })
+        echo,
+    };
+    let put = if echo {
+        block.push_message(message, origin, queues)
+    } else {
+        block.push(&PublicationParts::of(&message), origin, queues)
+    };
+    put.ok()
 }
 
-/// Whether the message is as it was made for this number.
-fn is_message(message: &Message, number: u64) -> bool {
-    let payload = str::from_utf8(message.payload().as_slice()).unwrap_or("");
-    message.subject().bytes() == b"orders.new".as_slice()
-        && message.reply().is_some()
+/// Whether the publication is as it was made for this number.
+fn is_publication(publication: &PublicationParts<'_>, number: u64) -> bool {
+    let payload = str::from_utf8(publication.payload).unwrap_or("");
+    publication.subject == b"orders.new".as_slice()
+        && publication.reply.is_some()
         && golden::number(payload) == number
 }
 
@@ -59,38 +68,37 @@ fn are_names(names: &[QueueName]) -> bool {
 }
 
 /// Whether each part of the job is as it was made for this turn.
-fn is_job(job: &Job, number: u64) -> bool {
-    job.turn.get() == number
-        && Some(job.id) == id(number)
-        && job.publisher == Some(ConnId::new(number))
-        && job.echo == (number % 2 == 1)
-        && is_message(&job.message, number)
-        && are_names(job.queues.as_slice())
+fn is_job(job: &LentJob<'_>, number: u64) -> bool {
+    job.turn().get() == number
+        && Some(job.id()) == id(number)
+        && job.publisher() == Some(ConnId::new(number))
+        && job.echo() == (number % 2 == 1)
+        && is_publication(&job.publication(), number)
+        && are_names(job.queues().as_slice())
 }
 
 /// A run of so many jobs behind this turn.
 pub fn run_behind(alloc: Global, last: Turn, count: u64) -> Option<Run>
     ensures turns { IfSome result (AreNumberedBehind last) }
 {
-    let mut turn = last;
-    let mut jobs = Vec::new(alloc);
+    let mut block = JobBlock::empty(alloc, last.next()?);
     for _made in 0..count {
-        turn = turn.next()?;
-        let job = job(alloc, turn)?;
-        jobs.push(job).ok()?;
+        let turn = block.next_turn()?;
+        put_job(alloc, &mut block, turn)?;
     }
-    if jobs.is_empty() {
+    if block.is_empty() {
         return None;
     }
-    Run::new(alloc, jobs).ok()
+    let _numbered = block.first_turn();
+    Run::new(alloc, block).ok()
 }
 
 /// The number of the last of these jobs, where they are those behind the first `before`.
-fn last_of(jobs: &[Job], before: u64) -> Option<u64> {
+fn last_of(jobs: &JobSlice<'_>, before: u64) -> Option<u64> {
     let mut number = before;
-    for job in jobs {
+    for place in 0..jobs.len() {
         number = number.saturating_add(1);
-        if !is_job(job, number) {
+        if !is_job(&jobs.get(place), number) {
             return None;
         }
     }
@@ -101,7 +109,7 @@ fn last_of(jobs: &[Job], before: u64) -> Option<u64> {
 fn last_of_runs(runs: &[Run], before: u64) -> Option<u64> {
     let mut number = before;
     for run in runs {
-        number = last_of(run.jobs(), number)?;
+        number = last_of(&run.jobs(), number)?;
     }
     Some(number)
 }
@@ -133,6 +141,16 @@ impl Lanes {
             second: None,
             payload: None,
         }
+    }
+}
+
+/// How many jobs wait from the one in hand on.
+fn waiting_len(reader: &LaneOut) -> usize
+    ensures { result ≡ length (from_hand reader.now) }
+{
+    match reader.waiting() {
+        None => 0,
+        Some(jobs) => jobs.len(),
     }
 }
 
@@ -170,9 +188,11 @@ impl Both {
     fn pops<R: Wait>(&mut self, rt: &R) -> bool {
         let next = self.popped.saturating_add(1);
         let turn = self.reader.pop(rt).map(Turn::get);
-        match (turn, self.reader.in_hand()) {
+        match (turn, self.reader.waiting()) {
             (None, None) => return false,
-            (Some(turn), Some(job)) if turn == next && is_job(job, turn) => self.popped = next,
+            (Some(turn), Some(jobs)) if turn == next && is_job(&jobs.get(0), turn) => {
+                self.popped = next
+            }
             _ => self.popped = u64::MAX,
         }
         true
@@ -181,13 +201,13 @@ impl Both {
     /// Pops so many jobs behind the one in hand: whether there are so many. Where the last of them is another job than it is to be, it is
     /// counted as many.
     fn pops_behind(&mut self, count: usize) -> bool {
-        if count >= self.reader.waiting().len() {
+        if count >= waiting_len(&self.reader) {
             return false;
         }
         self.reader.pop_behind(count);
         let last = self.popped.saturating_add(count as u64);
-        match self.reader.in_hand() {
-            Some(job) if is_job(job, last) => self.popped = last,
+        match self.reader.waiting() {
+            Some(jobs) if is_job(&jobs.get(0), last) => self.popped = last,
             _ => self.popped = u64::MAX,
         }
         true
@@ -196,9 +216,10 @@ impl Both {
 
 /// Which jobs wait from the one in hand on.
 fn waiting_told(both: &Both, alloc: Global) -> Result<String, AllocError> {
-    let jobs = both.reader.waiting();
-    match last_of(jobs, both.popped.saturating_sub(1)) {
-        _ if jobs.is_empty() => text(alloc, "none"),
+    let Some(jobs) = both.reader.waiting() else {
+        return text(alloc, "none");
+    };
+    match last_of(&jobs, both.popped.saturating_sub(1)) {
         None => text(alloc, "other jobs"),
         Some(last) => format!(in alloc; "jobs {} to {last}", both.popped),
     }
@@ -219,7 +240,7 @@ fn pop_behind(both: &mut Both, alloc: Global, count: u64) -> Result<String, Allo
 /// What is told of a run that came back; it stood behind this turn.
 fn back_word(last: Turn, back: &Run) -> &'static str {
     let wanted = last.get().saturating_add(back.jobs().len() as u64);
-    if last_of(back.jobs(), last.get()) == Some(wanted) {
+    if last_of(&back.jobs(), last.get()) == Some(wanted) {
         "comes back whole"
     } else {
         "comes back changed"
@@ -318,7 +339,7 @@ fn lane_answer<R: Wait>(
 
 /// The payload of the first job of a run.
 fn payload_of(run: &Run) -> Option<Bytes> {
-    run.jobs().first()?.message.payload().clone().ok()
+    run.jobs().get(0).shared()?.payload().clone().ok()
 }
 
 /// Pushes one run to both lanes, where as much was pushed to the one as to the other: whether both took it.

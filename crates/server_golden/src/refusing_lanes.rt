@@ -4,6 +4,7 @@ ghost use Rattle.std.specs.Prelude.{⊤};
 
 use client_calls::Outcome;
 use hub_core::{CollectResult, HubFault};
+use publication_runs::LentRun;
 use route_session::{SessionFault, SessionId};
 use route_values::{Numbered, RouteConnect, RouteInfo};
 use server_calls::{HubCalls, ServerCalls};
@@ -47,6 +48,10 @@ impl<'n, H: HubCalls> HubCalls for LanedHub<'n, H> {
 
     fn publish(&mut self, conn: ConnId, publication: &Pub, word: u64) -> Outcome {
         self.hub.publish(conn, publication, word)
+    }
+
+    fn publish_run(&mut self, conn: ConnId, run: &mut LentRun<'_>) -> u64 {
+        self.hub.publish_run(conn, run)
     }
 
     fn receive(&mut self, frame: &Numbered) -> Result<(), Failure<HubFault>> {

@@ -1,5 +1,5 @@
 -- What a shard's fields keep where a run is delivered.
-use Rattle.std.proofs.Common.{◌≡◌, ℕ, ◌+◌, ◌*◌, ◌<◌, ◌≤◌, Bool, true, false, cond, List, [], ◌∷◌, length, map, filter, take}
+use Rattle.std.proofs.Common.{◌≡◌, ℕ, ◌+◌, ◌*◌, ◌^◌, ◌<◌, ◌≤◌, Bool, true, false, cond, List, [], ◌∷◌, length, map, filter, take}
 use Rattle.std.proofs.Common.{Option, Some, None, refl, sym, ap, ◌∙◌, subst, arith}
 use Rattle.std.specs.Prelude.{All}
 use Rattle.std.proofs.lemmas.List.{length-take-le}
@@ -57,6 +57,16 @@ possible_idle : (s : State) (chosen : Option Subscription) (next : List Client)
     → IsSound s chosen next → s.hand ≡ None → ArePossible s.opened (s.finished * each_turn) s.subs
 possible_idle s chosen next was idle =
     subst (λ n. ArePossible s.opened n s.subs) (idle_counts s.hand chosen s.finished s.next_index idle) was.possible
+
+-- so many messages more can be counted for each subscription
+pub can_count : (s : State) (chosen : Option Subscription) (next : List Client) (jobs : List Job) (last : ℕ)
+    → IsSound s chosen next → s.hand ≡ None → Turns s.finished jobs last → last ≤ MAX_COUNTER
+    → All (λ sub. sub.delivered + length jobs < 2 ^ 64) s.subs
+can_count s chosen next jobs last was idle turns most =
+    let end = turns_end s.finished last jobs turns in
+    All-weaker (λ (sub : Subscription). IsPossible s.opened (s.finished * each_turn) sub)
+    (λ (sub : Subscription). sub.delivered + length jobs < 2 ^ 64)
+    (λ sub is. let few = is.delivered in omega (arith, few, end, most)) s.subs (possible_idle s chosen next was idle)
 
 pub sound_delivered : (s : State) (chosen : Option Subscription) (next : List Client) (serial : Option ℕ)
     (conns : Clients) (openings : Opened) (jobs : List Job) (last : ℕ)
@@ -167,15 +177,16 @@ from_its_state s chosen jobs count first last conns openings serial few some idl
     end = turns_end s.finished last run together.turns
 
 -- the call does it
-pub delivers_run : (s : State) (chosen : Option Subscription) (jobs : List Job) (count : ℕ) (first : Job) (last : ℕ)
-    (conns : Clients) (openings : Opened) (serial : Option ℕ) (old : Held)
+pub delivers_run : (s : State) (chosen : Option Subscription) (jobs run : List Job) (count : ℕ) (first : Job)
+    (last : ℕ) (conns : Clients) (openings : Opened) (serial : Option ℕ) (old : Held)
     → (record { state = s; chosen = chosen }) ≡ old
+    → run ≡ take count jobs
     → count ≤ length jobs
     → 0 < count
     → s.hand ≡ None
     → serial ≡ None
     → GoTogether first s.finished last (take count jobs)
-    → HasDelivered s (take count jobs) (part_of s) conns openings
+    → HasDelivered s run (part_of s) conns openings
     → DeliversRun jobs count old (record {
       state = record s {
         finished = last;
@@ -186,7 +197,7 @@ pub delivers_run : (s : State) (chosen : Option Subscription) (jobs : List Job) 
       };
       chosen = with_serial serial openings.subs;
     })
-delivers_run s chosen jobs count first last conns openings serial old is few some idle none together done =
+delivers_run s chosen jobs run count first last conns openings serial old is taken few some idle none together done =
     subst (λ (o : Held).
     DeliversRun jobs count o (record {
       state = record s {
@@ -198,4 +209,6 @@ delivers_run s chosen jobs count first last conns openings serial old is few som
       };
       chosen = with_serial serial openings.subs;
     }))
-    is (from_its_state s chosen jobs count first last conns openings serial few some idle none together done)
+    is
+    (from_its_state s chosen jobs count first last conns openings serial few some idle none together
+    (subst (λ (l : List Job). HasDelivered s l (part_of s) conns openings) taken done))

@@ -1,13 +1,13 @@
 //! The walk over the subscriptions that a job is due to.
 
-ghost use Rattle.std.specs.Prelude.{◌≡◌, ℕ, ◌+◌, ◌<◌, ◌^◌, ◌++◌, ◌≤◌, Bool, List, [], Option, None, true, false, filter, length, map, All, IfOk, IsTrue, OnOk, OnErr};
+ghost use Rattle.std.specs.Prelude.{◌≡◌, ℕ, ◌+◌, ◌<◌, ◌^◌, ◌++◌, ◌≤◌, ◌||◌, not, Bool, List, [], Option, None, true, false, filter, length, map, All, IfOk, IsTrue, OnOk, OnErr};
 ghost use Rattle.client_frames.specs.Messages.{line_forms, due_bytes};
 ghost use Rattle.outbox.specs.Views.{with_entry, with_last};
 ghost use Rattle.shard_core.specs.Boxes.{IsSeatOf, IsSettled, form_length};
 ghost use Rattle.shard_core.specs.Closings.{ended_ids};
 ghost use Rattle.shard_core.specs.Dirty.{AreTold};
 ghost use Rattle.shard_core.specs.Opened.{AreRising, AreApart};
-ghost use Rattle.shard_core.specs.Owed.{is_due, is_permitted, may_get_at as is_permitted_at, due_entry as entry_due, placed_for, mode_of, walk_after_put, walk, reaches, slow_consumer};
+ghost use Rattle.shard_core.specs.Owed.{is_due, is_permitted, is_publisher, may_get_at as is_permitted_at, due_entry as entry_due, placed_for, mode_of, walk_after_put, walk, reaches, slow_consumer};
 ghost use Rattle.shard_core.specs.Shards.{State, is_open as opened, clients_with_change, client_at, fits};
 ghost use Rattle.shard_core.specs.Puts.{put_line};
 ghost use Rattle.shard_core.specs.ReceiverSteps.{with_noted};
@@ -20,6 +20,7 @@ use crate::openings::Openings;
 use crate::receiver_walk::walk_receivers;
 use crate::standings::{FormLengths, Seat, Standing};
 use client_frames::{ErrText, MessageLines, MessageTails, message_body, message_len};
+use job_block::SHORT_BYTES;
 use outbox::{Entry, Mode};
 use std::alloc::{AllocError, Global};
 use std::marker::Model;
@@ -27,11 +28,18 @@ use std::mem;
 use sub_table::{SubTable, Subscription};
 use subj::{ConnId, Job, Message, SubId};
 
-/// Whether the subscriptions of the connection may get the job: not where they are the publisher's own, without echo.
+/// Whether the subscriptions of the connection may get a job of this publisher: not where they are the publisher's own, without echo.
+pub fn is_echoed_to(publisher: Option<ConnId>, echo: bool, conn: ConnId) -> bool
+    ensures { result ≡ (echo || not (is_publisher publisher conn)) }
+{
+    echo || publisher != Some(conn)
+}
+
+/// Whether the subscriptions of the connection may get the job.
 pub fn may_get_at(job: &Job, conn: ConnId) -> bool
     ensures { result ≡ is_permitted_at job.now conn }
 {
-    job.echo || job.publisher != Some(conn)
+    is_echoed_to(job.publisher, job.echo, conn)
 }
 
 /// Whether the subscription may get the job.
@@ -472,11 +480,8 @@ impl DeliveryBuffer {
     }
 }
 
-/// Messages with more bytes than these behind their lines are not spelt by parts: their payloads are shared, or their bytes are the cost.
-pub const SHORT_BODY: usize = 2_048;
-
 /// The whole walk of a job, unseen: over the receivers of its subject where they are noted, its messages are short, and no copies are
-/// asked for.
+/// asked for. Longer ones are not spelt by parts: their payloads are shared, or their bytes are the cost.
 fn walk_any<T: SubTable>(
     buffer: &mut DeliveryBuffer,
     tails: &mut MessageTails,
@@ -491,10 +496,10 @@ fn walk_any<T: SubTable>(
         (λ s w. walk s job.now (filter (is_due job.now) s.subs) w) conns.old.next buffer.old
         conns.new.next buffer.new) }
 {
-    if buffer.copies || job.message.whole().len() > SHORT_BODY {
+    if buffer.copies || job.message.whole().len() > SHORT_BYTES {
         return buffer.walk(conns, openings, job);
     }
-    match openings.receivers(job.message.subject()) {
+    match openings.receivers(job.message.subject().bytes()) {
         None => buffer.walk(conns, openings, job),
         Some(receivers) => walk_receivers(buffer, conns, openings, job, tails, receivers),
     }

@@ -177,7 +177,7 @@ impl<T: SubTable> Openings<T> {
     pub fn remember(&mut self, subject: &Subject)
         ensures { self.new ≡ self.old }
     {
-        if self.notes.receivers.of(subject).is_some() {
+        if self.notes.receivers.of(subject.bytes()).is_some() {
             return;
         }
         self.table.remember(subject);
@@ -197,7 +197,7 @@ impl<T: SubTable> Openings<T> {
     }
 
     /// All who receive the subject, in order of opening, where they are noted.
-    pub fn receivers(&self, subject: &Subject) -> Option<&[Receiver]>
+    pub fn receivers(&self, subject: &[u8]) -> Option<&[Receiver]>
         ensures all { IfSome result (λ receivers.
             receivers.now ≡ receivers_of subject.now (filter (gets subject.now) self.now.subs)) }
         ensures rising { AreRising self.now.subs }

@@ -25,14 +25,14 @@ use sub_table::SubTable;
 use subj::{Job, SubId};
 
 /// Whether Begin places the job for the receiver.
-pub fn is_due(job: &Job, receiver: &Receiver) -> bool
+fn is_due(job: &Job, receiver: &Receiver) -> bool
     ensures { result ≡ is_due_to job.now receiver.now }
 {
     receiver.is_plain() && may_get_at(job, receiver.conn())
 }
 
 /// Whether Begin places the job for any of these.
-pub fn any_due(job: &Job, receivers: &[Receiver]) -> bool
+fn any_due(job: &Job, receivers: &[Receiver]) -> bool
     ensures { result ≡ false → filter (is_due_to job.now) receivers.now ≡ [] }
 {
     for receiver in receivers {

@@ -65,13 +65,13 @@ impl Receivers {
     }
 
     /// Those of the subject, where they are noted.
-    pub fn of(&self, subject: &Subject) -> Option<&[Receiver]>
+    pub fn of(&self, subject: &[u8]) -> Option<&[Receiver]>
         ensures { (subs : List Opened)
             → AreReceivers subs self.now
             → IfSome result (λ receivers.
             receivers.now ≡ receivers_of subject.now (filter (gets subject.now) subs)) }
     {
-        if !self.noted || self.subject.as_slice() != subject.bytes() {
+        if !self.noted || self.subject.as_slice() != subject {
             return None;
         }
         Some(self.receivers.as_slice())

@@ -1,6 +1,6 @@
 //! A run of jobs of one subject, delivered at once to the receivers that are noted.
 
-ghost use Rattle.std.specs.Prelude.{◌≡◌, ◌+◌, ◌<◌, ◌≤◌, ◌^◌, ◌++◌, true, false, None, filter, map, length, take, All, IfOk, OnOk, OnErr};
+ghost use Rattle.std.specs.Prelude.{◌≡◌, ◌+◌, ◌<◌, ◌≤◌, ◌^◌, ◌++◌, ◌∷◌, [], true, false, Some, filter, map, length, slice_get, take, All, IfOk, OnOk, OnErr};
 ghost use Rattle.list_laws.specs.Lists.{Each};
 ghost use Rattle.sub_table.specs.Subscriptions.{gets};
 ghost use Rattle.shard_core.specs.Boxes.{IsSettled};
@@ -14,78 +14,72 @@ ghost use Rattle.shard_core.specs.RunReceivers.{clients_with_entries};
 ghost use Rattle.shard_core.specs.Shards.{State};
 
 use crate::connections::Conns;
-use crate::delivery_buffer::SHORT_BODY;
+use crate::delivery_buffer::is_echoed_to;
 use crate::dirty_conns::DirtyConns;
 use crate::openings::Openings;
 use crate::receiver::Receiver;
-use crate::receiver_walk::{any_due, is_due};
 use client_frames::MessageTails;
+use job_block::{JobSlice, LentJob};
 use outbox::RunTails;
 use std::alloc::{AllocError, Global};
 use sub_table::SubTable;
-use subj::{ConnId, Job, MAX_COUNTER, Message, SubId, Subject, Turn};
+use subj::{MAX_COUNTER, SubId, Turn};
 
-/// Whether the message is short, without a header block.
-fn is_short(message: &Message) -> bool
-    ensures { result ≡ true → message.now.headers ≡ None }
+/// Whether a run may begin with the job: it has a short message, and claims no queue name.
+pub fn may_begin(job: &LentJob<'_>) -> bool
+    ensures { result ≡ true → GoesWith job.now job.now }
 {
-    message.headers().is_none() && message.whole().len() <= SHORT_BODY
+    job.queues().as_slice().is_empty() && job.publication().is_short()
 }
 
-/// Whether both subjects are the same.
-fn is_same_subject(subject: &Subject, other: &Subject) -> bool
-    ensures { result ≡ true → other.now ≡ subject.now }
+/// Whether Begin places the job for the receiver.
+fn is_due(job: &LentJob<'_>, receiver: &Receiver) -> bool
+    ensures { result ≡ is_due_to job.now receiver.now }
 {
-    subject.bytes() == other.bytes()
+    receiver.is_plain() && is_echoed_to(job.publisher(), job.echo(), receiver.conn())
 }
 
-/// Whether both are the same client's, or no client's.
-fn is_same_publisher(publisher: Option<ConnId>, other: Option<ConnId>) -> bool
-    ensures { result ≡ true → other ≡ publisher }
+/// Whether Begin places the job for any of these.
+fn any_due(job: &LentJob<'_>, receivers: &[Receiver]) -> bool
+    ensures { result ≡ false → filter (is_due_to job.now) receivers.now ≡ [] }
 {
-    publisher == other
-}
-
-/// Whether the job has a short message and claims no queue name, and goes to whom the first one goes.
-fn goes_with(first: &Job, job: &Job) -> bool
-    ensures { result ≡ true → GoesWith first.now job.now }
-{
-    job.queues.as_slice().is_empty()
-        && is_short(&job.message)
-        && job.echo == first.echo
-        && is_same_publisher(first.publisher, job.publisher)
-        && is_same_subject(first.message.subject(), job.message.subject())
+    for receiver in receivers {
+        if is_due(job, receiver) {
+            return true;
+        }
+    }
+    false
 }
 
 /// Jobs that go together: how many, and the turn of the last one.
 #[derive(Clone, Copy)]
 pub struct Together {
-    /// How many: 0 where the first one has another turn, or goes with none.
+    /// How many: 0 where the first one has another turn.
     pub count: usize,
     /// The turn of the last one; where there is none, the last one finished.
     pub last: Turn,
 }
 
-/// How many of these jobs, from the first on, go with this one, in turns that follow the last one finished.
-pub fn jobs_together(finished: Turn, first: &Job, jobs: &[Job]) -> Together
+/// How many of these jobs, from the first on, go with the first, in turns that follow the last one finished. Required: a run may begin
+/// with the first.
+pub fn jobs_together(finished: Turn, first: &LentJob<'_>, jobs: &JobSlice<'_>) -> Together
+    requires first { slice_get jobs.now 0 ≡ Some first.now }
+    requires begins { GoesWith first.now first.now }
     ensures few { result.count ≤ length jobs.now }
     ensures together { GoTogether first.now finished result.last (take result.count jobs.now) }
     ensures most { result.last ≤ MAX_COUNTER }
 {
-    let mut together = Together {
-        count: 0,
-        last: finished,
-    };
-    for job in jobs {
-        if job.turn.get() != together.last.get() + 1 || !goes_with(first, job) {
-            return together;
-        }
-        together = Together {
-            count: together.count + 1,
-            last: job.turn,
+    if first.turn().get() != finished.get() + 1 {
+        return Together {
+            count: 0,
+            last: finished,
         };
     }
-    together
+    let count = jobs.run_len();
+    Together {
+        count,
+        last: jobs.get(count - 1).turn(),
+    }
 }
 
 /// The memory of a run, used again by the next.
@@ -110,14 +104,30 @@ impl RunBuffer {
     }
 }
 
-/// Spells what stands behind the ids of subscriptions in the messages of these jobs, in place of what was there.
-fn spell(message: &mut MessageTails, tails: &mut RunTails, jobs: &[Job]) -> Result<(), AllocError>
+/// Spells what stands behind the ids of subscriptions in the message of this job, without a header block, behind what is there.
+fn spell_one(
+    message: &mut MessageTails,
+    tails: &mut RunTails,
+    job: &LentJob<'_>,
+) -> Result<(), AllocError>
+    ensures { OnOk result (tails.new ≡ tails.old ++ tail_of job.now ∷ []) }
+{
+    let publication = job.publication();
+    message.write_parts(publication.reply, publication.payload)?;
+    tails.push(job.id(), message.tail(false))
+}
+
+/// Spells what stands behind the ids of subscriptions in the messages of these jobs, without header blocks, in place of what was there.
+fn spell(
+    message: &mut MessageTails,
+    tails: &mut RunTails,
+    jobs: &JobSlice<'_>,
+) -> Result<(), AllocError>
     ensures { OnOk result (tails.new ≡ map tail_of jobs.now) }
 {
     tails.clear();
-    for job in jobs {
-        message.write(&job.message)?;
-        tails.push(job.id, message.tail(false))?;
+    for place in 0..jobs.len() {
+        spell_one(message, tails, &jobs.get(place))?;
     }
     Ok(())
 }
@@ -156,7 +166,7 @@ fn stage_if_due(
     buffer: &mut RunBuffer,
     conns: &mut Conns,
     shard: u64,
-    first: &Job,
+    first: &LentJob<'_>,
     receiver: &Receiver,
 ) -> Result<bool, AllocError>
     ensures shown { conns.new.shown ≡ conns.old.shown }
@@ -173,6 +183,8 @@ fn stage_if_due(
         return Ok(false);
     }
     buffer.given.push(receiver.serial())?;
+    let head = buffer.message.head(receiver.head(), false);
+    buffer.tails.name_head(head);
     stage_for(buffer, conns, shard, receiver)
 }
 
@@ -181,7 +193,7 @@ fn stage_each(
     buffer: &mut RunBuffer,
     conns: &mut Conns,
     shard: u64,
-    first: &Job,
+    first: &LentJob<'_>,
     receivers: &[Receiver],
 ) -> Result<bool, AllocError>
     ensures shown { conns.new.shown ≡ conns.old.shown }
@@ -207,8 +219,8 @@ fn stage_run(
     buffer: &mut RunBuffer,
     conns: &mut Conns,
     shard: u64,
-    first: &Job,
-    jobs: &[Job],
+    first: &LentJob<'_>,
+    jobs: &JobSlice<'_>,
     receivers: &[Receiver],
 ) -> Result<bool, AllocError>
     ensures shown { conns.new.shown ≡ conns.old.shown }
@@ -233,8 +245,8 @@ fn stage_noted<T: SubTable>(
     conns: &mut Conns,
     openings: &Openings<T>,
     shard: u64,
-    first: &Job,
-    jobs: &[Job],
+    first: &LentJob<'_>,
+    jobs: &JobSlice<'_>,
 ) -> Result<bool, AllocError>
     ensures shown { conns.new.shown ≡ conns.old.shown }
     ensures rising { IfOk result (λ put. put ≡ true → AreRising openings.now.subs) }
@@ -249,7 +261,7 @@ fn stage_noted<T: SubTable>(
         (receivers_of first.now.message.subject
         (filter (gets first.now.message.subject) openings.now.subs))) }
 {
-    match openings.receivers(first.message.subject()) {
+    match openings.receivers(first.subject()) {
         None => Ok(false),
         Some(receivers) => stage_run(buffer, conns, shard, first, jobs, receivers),
     }
@@ -264,8 +276,8 @@ pub fn put_run<T: SubTable>(
     dirty_conns: &mut DirtyConns,
     openings: &mut Openings<T>,
     shard: u64,
-    first: &Job,
-    jobs: &[Job],
+    first: &LentJob<'_>,
+    jobs: &JobSlice<'_>,
 ) -> Result<bool, AllocError>
     requires settled { IsSettled conns.old }
     requires some { 0 < length jobs.now }

@@ -3,3 +3,4 @@ pub mod Draining
 pub mod Telling
 pub mod Holding
 pub mod Working
+pub mod Running

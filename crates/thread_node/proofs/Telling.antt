@@ -25,6 +25,7 @@ use Rattle.shard_core.specs.ShardSteps.{shard_refusal}
 use Rattle.shard_core.specs.declared.faults.ShardFault.{ShardFault}
 use Rattle.node_threads.specs.AtHub.{AtHub, Collects, Does as HubDoes, Looks, Publishes, Receives, IsReceived}
 use Rattle.node_threads.specs.AtWork.{AtWork, Does, Makes, TakesBytes, at_start}
+use Rattle.node_threads.specs.HubRuns.{IssuesEach}
 use Rattle.node_threads.specs.Tapes.{Grows, IsTape, entry, entry_of, told_of}
 use Rattle.node_threads.specs.declared.shard_entries.ShardEntry.{ShardEntry}
 use Rattle.node_threads.specs.declared.shard_entries.ShardEvent.{ShardEvent}
@@ -286,6 +287,19 @@ module _ {server : ServerIdentity} where
       n)
   publish_noted shards w v conn word publication (Err OutOfMemory) tape more t d n =
       hub_short d.seen v tape more (hub_looks shards w d.seen tape d.looks t) d.answered.1 n
+
+  -- publications of a run, where no tape is kept: nothing is written of them
+  pub run_unnoted : (shards conn : ℕ) (publications : List Pub) (w v : AtHub) (tape : Option (List HubEntry))
+      → ((more : List HubEntry) → Grows tape more tape)
+      → IsHubTape server w tape
+      → IssuesEach shards conn publications w v
+      → IsHubTape server v tape
+  run_unnoted shards conn [] w v tape unkept t each = subst (λ (x : AtHub). IsHubTape server x tape) (sym each) t
+  run_unnoted shards conn (said ∷ others) w v tape unkept t each =
+      run_unnoted shards conn others each.0 v tape unkept
+      (publish_noted shards w each.0 conn 0 said (Ok each.1) tape tape t (each.2 0)
+      (unkept (hub_entry (event.Publish conn said 0 each.0.finished) (told.Issued each.1.turn each.1.frames) ∷ [])))
+      each.3
 
   -- a frame of a peer that is taken
   receive_kept : (shards : ℕ) (w v : AtHub) (frame : Frame) (received : Received) (tape more : Option (List HubEntry))

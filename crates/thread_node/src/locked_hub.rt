@@ -11,6 +11,7 @@ ghost use Rattle.route_session.specs.Events.{Dial, Accept, OnInfo, OnConnect, Cu
 ghost use Rattle.route_session.specs.Steps.{session_refusal};
 ghost use Rattle.node_parts.specs.Sides.{ByHub, BySessions, OfHub, OfSessions, new_side, seen_name};
 ghost use Rattle.node_threads.specs.AtHub.{Collects, Does, Publishes, Receives};
+ghost use Rattle.node_threads.specs.HubRuns.{IssuesRun};
 ghost use Rattle.thread_node.specs.HubTapes.{IsHubTape};
 
 use crate::hub_entries::{HubEntry, HubEvent};
@@ -24,6 +25,7 @@ use claim_cells::Cells;
 use hub_core::{CollectResult, HubFault};
 use node_parts::{Issued, Received};
 use node_threads::{HubState, NodeName, Tape};
+use publication_runs::LentRun;
 use route_session::{Kept, SessionFault, SessionId};
 use route_values::{Numbered, RouteConnect, RouteInfo};
 use std::alloc::Global;
@@ -98,6 +100,17 @@ impl<N: NodeName> LockedHub<N> {
         let told = told_issued(&done);
         note_hub(&mut self.tape, event, told);
         done
+    }
+
+    /// [`HubState::publish_run`]. None is published where a tape is kept, as nothing is written down of a run.
+    /// [`LockedHub::push_jobs`] hands the jobs to the shards.
+    pub fn publish_run(&mut self, conn: ConnId, run: &mut LentRun<'_>) -> u64
+        ensures { IssuesRun N.race.shards conn result run.old run.new self.old self.new }
+    {
+        if self.tape.is_kept() {
+            return 0;
+        }
+        self.state.publish_run(&self.cells, conn, run)
     }
 
     /// [`HubState::receive`]. [`LockedHub::push_jobs`] hands the job of a message to the shards.

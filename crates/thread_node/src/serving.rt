@@ -16,6 +16,7 @@ use hub_core::{CollectResult, HubFault};
 use node_law::NodeFault;
 use node_parts::{Issued, Received};
 use node_threads::{NodeName, Open, Turned};
+use publication_runs::LentRun;
 use route_session::{SessionFault, SessionId};
 use route_values::{Numbered, RouteConnect, RouteInfo};
 use server_calls::{HubCalls, NextJob, ServerCalls, ShardCalls};
@@ -198,6 +199,10 @@ impl<'n, T: SubTable, N: NodeName> ClientCalls for HeldShard<'n, T, N> {
         Outcome::Elsewhere
     }
 
+    fn publish_run(&mut self, _conn: ConnId, _said: &mut LentRun<'_>) -> u64 {
+        0
+    }
+
     fn detach(&mut self, conn: ConnId) -> Result<(), AllocError> {
         let shard = &mut *self.guard;
         match shard.detach(conn) {
@@ -269,6 +274,11 @@ impl<'n, N: NodeName> HubCalls for HeldHub<'n, N> {
     fn publish(&mut self, conn: ConnId, publication: &Pub, word: u64) -> Outcome {
         let hub = &mut *self.guard;
         outcome_of_publish(hub.publish(conn, publication, word))
+    }
+
+    fn publish_run(&mut self, conn: ConnId, run: &mut LentRun<'_>) -> u64 {
+        let hub = &mut *self.guard;
+        hub.publish_run(conn, run)
     }
 
     fn receive(&mut self, frame: &Numbered) -> Result<(), Failure<HubFault>> {

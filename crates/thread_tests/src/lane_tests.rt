@@ -1,9 +1,11 @@
 //! Ten thousand jobs between two threads.
 
 ghost use Rattle.std.specs.Prelude.{◌≡◌, ◌+◌, ◌<◌, ◌++◌, [], length};
+ghost use Rattle.job_block.specs.Blocks.{turn_behind};
 ghost use Rattle.job_lane.specs.Turns.{AreNumberedBehind};
 
 use bytes::Bytes;
+use job_block::{JobBlock, LentJob, Origin};
 use job_lane::{LANE_CAPACITY, LaneIn, LaneOut, Run, lane, meet};
 use std::alloc::Global;
 use std::process::Abort;
@@ -11,7 +13,7 @@ use std::sync::Wait;
 use std::test::Fail;
 use std::thread;
 use std::thread::Threads;
-use subj::{ConnId, Incarnation, Job, Message, NodeId, PubId, QueueNames, Subject, Turn};
+use subj::{ConnId, Incarnation, Message, NodeId, PubId, QueueNames, Subject, Turn};
 
 /// A message whose payload is the number.
 fn message(rt: &impl Abort, alloc: Global, number: u64) -> Message {
@@ -35,28 +37,30 @@ fn id(rt: &impl Abort, number: u64) -> PubId {
     }
 }
 
-/// A job that tells its turn.
-fn job(rt: &impl Abort, alloc: Global, turn: Turn) -> Job
-    ensures { result.turn ≡ turn }
+/// Puts a job behind that tells its turn.
+fn put_job(rt: &impl Abort, alloc: Global, block: &mut JobBlock, turn: Turn)
+    requires { turn_behind block.old ≡ turn }
+    ensures first { block.new.first_turn ≡ block.old.first_turn }
+    ensures count { length block.new.jobs ≡ length block.old.jobs + 1 }
 {
     let number = turn.get();
-    Job {
-        turn,
+    let message = message(rt, alloc, number);
+    let origin = Origin {
         id: id(rt, number),
-        message: message(rt, alloc, number),
         publisher: Some(ConnId::new(number)),
         echo: number % 2 == 0,
-        queues: QueueNames::new(),
-    }
+    };
+    let put = block.push_message(message, origin, QueueNames::new());
+    put.ok().expect(rt, "memory");
 }
 
 /// Whether the job is as it was made for this turn.
-fn is_job(rt: &impl Abort, job: &Job, number: u64) -> bool {
-    job.turn.get() == number
-        && job.id == id(rt, number)
-        && job.publisher == Some(ConnId::new(number))
-        && job.echo == (number % 2 == 0)
-        && job.message.payload().as_slice() == number.to_be_bytes().as_slice()
+fn is_job(rt: &impl Abort, job: &LentJob<'_>, number: u64) -> bool {
+    job.turn().get() == number
+        && job.id() == id(rt, number)
+        && job.publisher() == Some(ConnId::new(number))
+        && job.echo() == (number % 2 == 0)
+        && job.publication().payload == number.to_be_bytes().as_slice()
 }
 
 /// A run of so many jobs behind this turn.
@@ -65,13 +69,13 @@ fn run_behind(rt: &impl Abort, alloc: Global, last: Turn, count: u64) -> Run
     ensures turns { AreNumberedBehind last result }
     ensures count { length result ≡ count }
 {
-    let mut turn = last;
-    let mut jobs = Vec::new(alloc);
+    let mut block = JobBlock::empty(alloc, last.next().expect(rt, "a turn"));
     for _made in 0..count {
-        turn = turn.next().expect(rt, "a turn");
-        jobs.push(job(rt, alloc, turn)).ok().expect(rt, "memory");
+        let turn = block.next_turn().expect(rt, "a turn");
+        put_job(rt, alloc, &mut block, turn);
     }
-    Run::new(alloc, jobs).ok().expect(rt, "memory")
+    let _numbered = block.first_turn();
+    Run::new(alloc, block).ok().expect(rt, "memory")
 }
 
 /// How many jobs go from one thread to another, by runs of so many, and how many the second thread pops.
@@ -141,7 +145,8 @@ fn pop_most<R: Abort + Wait>(rt: &R, reader: LaneOut) -> LaneOut
     for popped in 0..POPPED {
         let turn = pop_in_time(rt, &mut reader);
         assert_eq!(rt; turn.get(), popped + 1);
-        assert!(rt; is_job(rt, reader.in_hand().expect(rt, "a job"), popped + 1));
+        let jobs = reader.waiting().expect(rt, "a job");
+        assert!(rt; is_job(rt, &jobs.get(0), popped + 1));
     }
     reader
 }
@@ -173,9 +178,10 @@ fn pass_through<R: Abort + Threads + Wait + Sync>(
 fn assert_are_jobs(rt: &impl Abort, runs: &[Run], before: u64, last: u64) {
     let mut number = before;
     for run in runs {
-        for job in run.jobs() {
+        let jobs = run.jobs();
+        for place in 0..jobs.len() {
             number = number.checked_add(1).expect(rt, "a number");
-            assert!(rt; is_job(rt, job, number));
+            assert!(rt; is_job(rt, &jobs.get(place), number));
         }
     }
     assert_eq!(rt; number, last);

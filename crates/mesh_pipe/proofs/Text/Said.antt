@@ -1,5 +1,5 @@
 -- What is said of what a connection asks, ask by ask.
-use Rattle.std.proofs.Common.{◌≡◌, ℕ, ◌+◌, ◌<◌, Bool, true, false, true≢false, cond, List, [], ◌∷◌, ◌++◌, Some, None, Ok, Err, refl, ap, sym, ◌∙◌, subst, arith, append_assoc, append-nil}
+use Rattle.std.proofs.Common.{◌≡◌, ℕ, ◌+◌, ◌<◌, true, false, true≢false, cond, List, [], ◌∷◌, ◌++◌, Some, None, Ok, Err, refl, ap, sym, ◌∙◌, subst, arith, append_assoc, append-nil}
 use Rattle.std.specs.Prelude.{IsTrue, if◌then◌else◌, slice_get, sum_by}
 use Rattle.std.proofs.lemmas.Option.{none-some, same_Some}
 use Rattle.std.proofs.lemmas.List.Sums.{sum_by-cons}
@@ -195,21 +195,22 @@ settled_behind answer a rest onward settled =
     in_any_order answer (record { asks = a ∷ rest; onward = onward }) [] (some_ask a rest)
     ∙ ap (asks_after_answer answer) settled
 
-abbrev conn_at : ClientAction → List ClientAction → Onward → Bool → ConnState
-conn_at a rest onward given = record { asking = record { asks = a ∷ rest; onward = onward }; given = given }
+-- this connection, where it asks for this first
+abbrev conn_at : ClientAction → List ClientAction → Onward → ConnState → ConnState
+conn_at a rest onward was = record was { asking = record { asks = a ∷ rest; onward = onward } }
 
-telling_goes : {R : Type 0} (a : ClientAction) (rest : List ClientAction) (onward : Onward) (given : Bool)
+telling_goes : {R : Type 0} (a : ClientAction) (rest : List ClientAction) (onward : Onward) (was : ConnState)
     (server : PipeServer R) (refusal : Refusal) (why : ErrText)
-    → IsInStep (conn_at a rest onward given) server
+    → IsInStep (conn_at a rest onward was) server
     → asks_of a ≡ 2
     → ask_said a (served_state server) ≡ error_told why (served_state server)
     → asks_after_bytes [] (answered_first (Err refusal) (a ∷ rest) onward)
     ≡ answered_first (Err refusal) (a ∷ rest) onward
     → answered_first (Err refusal) (a ∷ rest) onward
     ≡ record { asks = ask.Reply (reply.Err why) ∷ rest; onward = onward }
-    → Goes (conn_at a rest onward given) server (record { asks = ask.Reply (reply.Err why) ∷ rest; onward = onward })
+    → Goes (conn_at a rest onward was) server (record { asks = ask.Reply (reply.Err why) ∷ rest; onward = onward })
     server
-telling_goes a rest onward given server refusal why step two is settled same = record {
+telling_goes a rest onward was server refusal why step two is settled same = record {
   said = [];
   put = sym (append-nil server.output.items);
   ready = record {
@@ -227,12 +228,12 @@ telling_goes a rest onward given server refusal why step two is settled same = r
 }
 
 answer_goes : {R : Type 0} (answer : Answer) (a : ClientAction) (rest : List ClientAction) (onward : Onward)
-    (given : Bool) (old new : PipeServer R)
-    → IsInStep (conn_at a rest onward given) old
+    (was : ConnState) (old new : PipeServer R)
+    → IsInStep (conn_at a rest onward was) old
     → HasServed (Answered answer) (ask_said a (served_state old)) old new
     → MayBeTold (Answered answer) a
-    → Goes (conn_at a rest onward given) old (answered_first answer (a ∷ rest) onward) new
-answer_goes (Ok done) a rest onward given old new step serves may = record {
+    → Goes (conn_at a rest onward was) old (answered_first answer (a ∷ rest) onward) new
+answer_goes (Ok done) a rest onward was old new step serves may = record {
   said = (ask_said a (served_state old)).text;
   put = serves.1.text;
   ready = record {
@@ -251,43 +252,43 @@ answer_goes (Ok done) a rest onward given old new step serves may = record {
       (sym serves.1.same) (goes_by_ask a rest onward (served_state old) serves.0);
   fewer = let before = weigh a rest in let some = pos a in omega (arith, before, some);
 }
-answer_goes (Err Busy) a rest onward given old new step serves may = absurd serves.0
-answer_goes (Err TooManySubscriptions) a rest onward given old new step serves may =
+answer_goes (Err Busy) a rest onward was old new step serves may = absurd serves.0
+answer_goes (Err TooManySubscriptions) a rest onward was old new step serves may =
     subst
-    (Goes (conn_at a rest onward given) old
+    (Goes (conn_at a rest onward was) old
     (record { asks = ask.Reply (reply.Err text.TooManySubscriptions) ∷ rest; onward = onward }))
     (sym serves.1)
-    (telling_goes a rest onward given old TooManySubscriptions text.TooManySubscriptions step may serves.0
+    (telling_goes a rest onward was old TooManySubscriptions text.TooManySubscriptions step may serves.0
     (settled_behind (Err TooManySubscriptions) a rest onward step.settled) refl)
-answer_goes (Err NumbersSpent) a rest onward given old new step serves may =
+answer_goes (Err NumbersSpent) a rest onward was old new step serves may =
     subst
-    (Goes (conn_at a rest onward given) old
+    (Goes (conn_at a rest onward was) old
     (record { asks = ask.Reply (reply.Err text.NumbersSpent) ∷ rest; onward = onward }))
     (sym serves.1)
-    (telling_goes a rest onward given old NumbersSpent text.NumbersSpent step may serves.0
+    (telling_goes a rest onward was old NumbersSpent text.NumbersSpent step may serves.0
     (settled_behind (Err NumbersSpent) a rest onward step.settled) refl)
-answer_goes (Err TooManyQueueGroups) a rest onward given old new step serves may =
+answer_goes (Err TooManyQueueGroups) a rest onward was old new step serves may =
     subst
-    (Goes (conn_at a rest onward given) old
+    (Goes (conn_at a rest onward was) old
     (record { asks = ask.Reply (reply.Err text.TooManyQueueGroups) ∷ rest; onward = onward }))
     (sym serves.1)
-    (telling_goes a rest onward given old TooManyQueueGroups text.TooManyQueueGroups step may serves.0
+    (telling_goes a rest onward was old TooManyQueueGroups text.TooManyQueueGroups step may serves.0
     (settled_behind (Err TooManyQueueGroups) a rest onward step.settled) refl)
-answer_goes (Err Draining) a rest onward given old new step serves may =
+answer_goes (Err Draining) a rest onward was old new step serves may =
     subst
-    (Goes (conn_at a rest onward given) old
+    (Goes (conn_at a rest onward was) old
     (record { asks = ask.Reply (reply.Err text.Draining) ∷ rest; onward = onward }))
     (sym serves.1)
-    (telling_goes a rest onward given old Draining text.Draining step may serves.0
+    (telling_goes a rest onward was old Draining text.Draining step may serves.0
     (settled_behind (Err Draining) a rest onward step.settled) refl)
-answer_goes (Err Other) a rest onward given old new step serves may = absurd serves.0
+answer_goes (Err Other) a rest onward was old new step serves may = absurd serves.0
 
 -- a connection that asks for this first
 asking_is : (conn : ConnState) (a : ClientAction) (rest : List ClientAction)
     → conn.asking.asks ≡ a ∷ rest
-    → conn ≡ conn_at a rest conn.asking.onward conn.given
+    → conn ≡ conn_at a rest conn.asking.onward conn
 asking_is conn a rest is =
-    λ k. record { asking = record { asks = is k; onward = conn.asking.onward }; given = conn.given }
+    λ k. record conn { asking = record { asks = is k; onward = conn.asking.onward } }
 
 in_step_again : {R : Type 0} (conn : ConnState) (next : Asking) (new_conn : ConnState) (new : PipeServer R)
     → new_conn.asking ≡ next
@@ -313,7 +314,7 @@ pub ask_worked : {R : Type 0} (answer : Answer) (a : ClientAction) (conn mid new
 ask_worked answer a conn mid new_conn old new step is serves may same given next =
     let begins = starts a conn.asking.asks is in
     let at = asking_is conn a begins.rest begins.are in
-    let goes = answer_goes answer a begins.rest conn.asking.onward conn.given old new
+    let goes = answer_goes answer a begins.rest conn.asking.onward conn old new
     (subst (λ (c : ConnState). IsInStep c old) at step) serves may in
     let next_is : new_conn.asking ≡ answered_first answer (a ∷ begins.rest) conn.asking.onward =
     next
@@ -322,11 +323,11 @@ ask_worked answer a conn mid new_conn old new step is serves may same given next
     record {
       said = goes.said;
       put = goes.put;
-      in_step = in_step_again (conn_at a begins.rest conn.asking.onward conn.given) _ new_conn new next_is goes.ready;
+      in_step = in_step_again (conn_at a begins.rest conn.asking.onward conn) _ new_conn new next_is goes.ready;
       goes =
           subst (λ (c : ConnState). GoesOn (state_of c old) goes.said (state_of new_conn new)) (sym at)
           (subst (λ (s : Asking).
-          GoesOn (state_of (conn_at a begins.rest conn.asking.onward conn.given) old) goes.said
+          GoesOn (state_of (conn_at a begins.rest conn.asking.onward conn) old) goes.said
           (record { asking = s; served = served_state new }))
           (sym next_is) goes.goes);
       fewer =

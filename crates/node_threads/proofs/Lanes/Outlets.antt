@@ -1,8 +1,12 @@
 -- Jobs on their way to the lanes.
-use Rattle.std.specs.Prelude.{is_some}
-use Rattle.std.proofs.Common.{◌≡◌, ℕ, zero, suc, ◌+◌, ◌<◌, Bool, true, false, true≢false, List, [], ◌∷◌, ◌++◌, length, map, get_or, All, Option, Some, None, refl, sym, ap, ◌∙◌, subst, append_assoc, append-nil, arith}
+use Rattle.std.specs.Prelude.{is_some, slice_get, OnOk, OnErr}
+use Rattle.std.proofs.Common.{◌≡◌, ℕ, zero, suc, ◌+◌, ◌-◌, ◌<◌, Bool, true, false, true≢false, List, [], ◌∷◌, ◌++◌, length, map, get_or, All, Option, Some, None, Result, Ok, Err, refl, sym, ap, ◌∙◌, subst, append_assoc, append-nil, length-append, arith}
 use Rattle.std.proofs.lemmas.List.{length-map, get_or-map}
+use Rattle.std.proofs.lemmas.Option.{slice_get_within}
 use Rattle.subj.specs.declared.jobs.Job.{Job}
+use Rattle.subj.specs.Messages.{Content}
+use Rattle.job_block.specs.declared.kept.Origin.{Origin}
+use Rattle.job_block.specs.Blocks.{AreNumberedFrom, Block, IsLast, IsLeft, IsPushed, job_of, turn_behind}
 use Rattle.job_lane.specs.Turns.{AreNumbered, AreNumberedBehind}
 use Rattle.job_lane.proofs.Numbering.{numbered_behind, numbered_front, numbered_append, numbered_none}
 use Rattle.node_threads.specs.Outlets.{AreFirst, LaneSender, jobs_owed, jobs_handed_to, jobs_handed, IsOutlet}
@@ -158,6 +162,118 @@ outlet_more run unsent lines job i turn = record {
       subst AreNumbered (sym (handed_more run unsent lines job i.some))
       (numbered_more (jobs_handed run unsent lines) job i.numbered turn);
 }
+
+-- the jobs that are not in a run go on with the next turn
+pub unsent_next : (run : Option (List Job)) (unsent : List Job) (lines : List LaneSender) (first turn : ℕ)
+    → IsOutlet run unsent lines
+    → AreNumberedFrom first unsent
+    → turn ≡ length (jobs_handed run unsent lines) + 1
+    → 0 < length unsent
+    → first + length unsent ≡ turn
+unsent_next run unsent [] first turn i numbered is some = absurd (let some = i.some in omega arith)
+unsent_next run [] (l ∷ ls) first turn i numbered is some = absurd (omega arith)
+unsent_next run (job ∷ jobs) (l ∷ ls) first turn i numbered is some =
+    let front = l.pushed ++ jobs_owed l.taken run in
+    let whole = append_assoc l.pushed (jobs_owed l.taken run) (job ∷ jobs) in
+    let here : job.turn ≡ first + 0 = numbered 0 job refl in
+    let there : job.turn ≡ length front + 0 + 1 =
+    numbered_behind front (job ∷ jobs) (subst AreNumbered (sym whole) i.numbered) 0 job refl in
+    let long : length (jobs_handed run (job ∷ jobs) (l ∷ ls)) ≡ length front + length (job ∷ jobs) =
+    ap length (sym whole) ∙ length-append front (job ∷ jobs) in
+    omega (arith, here, there, long, is)
+
+-- ---- one job more, by its parts
+
+-- it is handed out, or there was no memory and all is as it was
+pub record IsAdded {X E : Type 0} (run : Option (List Job)) (lines : List LaneSender) (unsent new : List Job)
+    (job : Job) (result : Result X E) : Type 0 where
+  pub keeps : IsOutlet run new lines
+  pub ok : OnOk result (jobs_handed run new lines ≡ jobs_handed run unsent lines ++ job ∷ [])
+  pub err : OnErr result (jobs_handed run new lines ≡ jobs_handed run unsent lines)
+
+pub added : {X E : Type 0} (run : Option (List Job)) (lines : List LaneSender) (unsent : List Job) (origin : Origin)
+    (turn : ℕ) (content said : Content) (queues : List (List ℕ)) (at new : Block) (result : Result X E)
+    → IsOutlet run unsent lines
+    → turn ≡ length (jobs_handed run unsent lines) + 1
+    → at.jobs ≡ unsent
+    → turn_behind at ≡ turn
+    → content ≡ said
+    → OnOk result (IsPushed (job_of origin (turn_behind at) content queues) at new)
+    → OnErr result (IsLeft at new)
+    → IsAdded run lines unsent new.jobs (job_of origin turn said queues) result
+added run lines unsent origin turn content said queues at new (Ok x) i next same behind says pushed left =
+    let job = job_of origin turn said queues in
+    let is : new.jobs ≡ unsent ++ job ∷ [] =
+    pushed.jobs ∙ (λ k. same k ++ job_of origin (behind k) (says k) queues ∷ []) in
+    record {
+      keeps = subst (λ jobs. IsOutlet run jobs lines) (sym {A = List Job} is) (outlet_more run unsent lines job i next);
+      ok = ap (λ jobs. jobs_handed run jobs lines) is ∙ handed_more run unsent lines job i.some;
+      err = tt;
+    }
+added run lines unsent origin turn content said queues at new (Err e) i next same behind says pushed left =
+    let is : new.jobs ≡ unsent = left.jobs ∙ same in
+    record {
+      keeps = subst (λ jobs. IsOutlet run jobs lines) (sym {A = List Job} is) i;
+      ok = tt;
+      err = ap (λ jobs. jobs_handed run jobs lines) is;
+    }
+
+-- ---- the last job
+
+get_behind : (xs ys : List Job) (k : ℕ) → slice_get (xs ++ ys) (length xs + k) ≡ slice_get ys k
+get_behind [] ys k = ap (slice_get ys) {x = 0 + k} {y = k} (omega arith)
+get_behind (x ∷ xs) ys k =
+    ap (slice_get (x ∷ (xs ++ ys))) {x = suc (length xs) + k} {y = suc (length xs + k)} (omega arith)
+    ∙ get_behind xs ys k
+
+pub last_behind : (xs ys : List Job)
+    → 0 < length ys
+    → slice_get (xs ++ ys) (length (xs ++ ys) - 1) ≡ slice_get ys (length ys - 1)
+last_behind xs ys some =
+    ap (slice_get (xs ++ ys)) {x = length (xs ++ ys) - 1} {y = length xs + (length ys - 1)}
+    (let long = length-append xs ys in omega (arith, long, some))
+    ∙ get_behind xs ys (length ys - 1)
+
+-- it is the last of those that are not in a run, where there are such
+handed_last : (run : Option (List Job)) (unsent : List Job) (lines : List LaneSender)
+    → 0 < length lines
+    → 0 < length unsent
+    → slice_get (jobs_handed run unsent lines) (length (jobs_handed run unsent lines) - 1)
+    ≡ slice_get unsent (length unsent - 1)
+handed_last run unsent [] lanes some = absurd (omega arith)
+handed_last run unsent (l ∷ ls) lanes some =
+    let owed = jobs_owed l.taken run in
+    last_behind l.pushed (owed ++ unsent) (let long = length-append owed unsent in omega (arith, long, some))
+    ∙ last_behind owed unsent some
+
+pub last_unsent : (publisher : Option ℕ) (subject : List ℕ) (echo : Bool) (run : Option (List Job)) (unsent : List Job)
+    (lines : List LaneSender)
+    → IsOutlet run unsent lines
+    → IsLast publisher subject echo (jobs_handed run unsent lines)
+    → 0 < length unsent
+    → IsLast publisher subject echo unsent
+last_unsent publisher subject echo run unsent lines i last some = record {
+  last = last.last;
+  stands = sym (handed_last run unsent lines i.some some) ∙ last.stands;
+  subject_same = last.subject_same;
+  publisher_same = last.publisher_same;
+  echo_same = last.echo_same;
+}
+
+pub last_handed : (publisher : Option ℕ) (subject : List ℕ) (echo : Bool) (run : Option (List Job)) (unsent : List Job)
+    (lines : List LaneSender)
+    → IsOutlet run unsent lines
+    → IsLast publisher subject echo unsent
+    → IsLast publisher subject echo (jobs_handed run unsent lines)
+last_handed publisher subject echo run unsent lines i last =
+    let within = slice_get_within unsent (length unsent - 1) last.last last.stands in
+    record {
+      last = last.last;
+      stands = handed_last run unsent lines i.some (omega (arith, within)) ∙ last.stands;
+      subject_same = last.subject_same;
+      publisher_same = last.publisher_same;
+      echo_same = last.echo_same;
+    }
 
 -- lanes to which nothing was pushed
 pub new_outlet : (lines : List LaneSender)

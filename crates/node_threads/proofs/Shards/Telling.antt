@@ -13,7 +13,7 @@ use Rattle.shard_core.specs.Shards.{State}
 use Rattle.shard_core.specs.declared.faults.ShardFault.{ShardFault}
 use Rattle.shard_core.specs.declared.faults.ShardFault.TheVariants.{NoJob}
 use Rattle.node_threads.specs.AtWork.{AtWork, Makes, Does, IsAtWork, at_start, seen_as}
-use Rattle.node_threads.specs.Logs.{Made, Did, WasRefused, Refuses, HasNoJob, Logs, steps_in}
+use Rattle.node_threads.specs.Logs.{Made, Did, WasRefused, Refuses, Logs, steps_in}
 use Rattle.node_threads.specs.Steps.{Done, Leads}
 use Rattle.node_threads.specs.Tapes.{Grows, Tells, IsTape, drop_entry, entry_of, refused_entry, entries_of}
 use Rattle.node_threads.specs.declared.shard_entries.ShardEntry.{ShardEntry}

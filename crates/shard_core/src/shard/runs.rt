@@ -3,23 +3,25 @@
 ghost use Rattle.std.specs.Prelude.{◌≡◌, true, IfOk, OnErr, None};
 ghost use Rattle.shard_core.specs.Held.{IsLeft};
 ghost use Rattle.shard_core.specs.Runs.{DeliversRun};
+ghost use Rattle.shard_core.specs.RunSteps.{GoesWith};
 
 use super::{Shard, drop_candidate};
-use crate::run_delivery::{jobs_together, put_run};
+use crate::run_delivery::{jobs_together, may_begin, put_run};
+use job_block::{JobSlice, LentJob};
 use std::alloc::AllocError;
 use sub_table::SubTable;
-use subj::Job;
 
 impl<T: SubTable> Shard<T> {
-    /// Whether a run may begin with this job: no other is in hand, it claims no queue name, who receives its subject is noted, and no
-    /// run of it was tried in vain.
-    fn may_begin_run(&self, first: &Job) -> bool
-        ensures { result ≡ true → self.now.state.hand ≡ None }
+    /// Whether a run may begin with this job: no other is in hand, it has a short message and claims no queue name, who receives its
+    /// subject is noted, and no run of it was tried in vain.
+    fn may_begin_run(&self, first: &LentJob<'_>) -> bool
+        ensures hand { result ≡ true → self.now.state.hand ≡ None }
+        ensures begins { result ≡ true → GoesWith first.now first.now }
     {
         self.hand.is_none()
-            && first.queues.as_slice().is_empty()
-            && first.turn > self.tried
-            && self.openings.receivers(first.message.subject()).is_some()
+            && first.turn() > self.tried
+            && may_begin(first)
+            && self.openings.receivers(first.subject()).is_some()
     }
 
     /// Delivers as many of these jobs at once as it can, from the first on, and finishes their turns: each receiver gets all its
@@ -30,31 +32,32 @@ impl<T: SubTable> Shard<T> {
     /// finished; where it claims a queue name, has a header block or a long payload; where who receives its subject is not noted yet; or
     /// where it is alone, since the next job has another subject or publisher. None either where one of the receivers has a maximum, or
     /// its connection is shut, has no room for the whole run, or has another receiver of it. Want of memory leaves the state as it was.
-    pub fn deliver_run(&mut self, jobs: &[Job]) -> Result<usize, AllocError>
+    pub fn deliver_run(&mut self, jobs: &JobSlice<'_>) -> Result<usize, AllocError>
         ensures ok { IfOk result (λ count. DeliversRun jobs.now count self.old self.new) }
         ensures err { OnErr result (IsLeft self.old self.new) }
     {
         drop_candidate(&mut self.conns, &mut self.chosen);
-        let Some(first) = jobs.first() else {
-            return Ok(0);
-        };
-        if !self.may_begin_run(first) {
+        if jobs.is_empty() {
             return Ok(0);
         }
-        let run = jobs_together(self.finished, first, jobs);
+        let first = jobs.get(0);
+        if !self.may_begin_run(&first) {
+            return Ok(0);
+        }
+        let run = jobs_together(self.finished, &first, jobs);
         if run.count < 2 {
             return Ok(0);
         }
         let (conns, openings) = (&mut self.conns, &mut self.openings);
-        let together = &jobs[..run.count];
+        let together = jobs.first(run.count);
         if !put_run(
             &mut self.run,
             conns,
             &mut self.dirty_conns,
             openings,
             self.shard,
-            first,
-            together,
+            &first,
+            &together,
         )? {
             self.tried = run.last;
             return Ok(0);

@@ -1,28 +1,17 @@
-use Rattle.std.proofs.Common.{◌≡◌, ℕ, ◌+◌, ◌≤◌, ◌∷◌, [], ◌++◌, take, ap, sym, subst, ◌∙◌, arith}
-use Rattle.std.proofs.lemmas.List.{take_more}
-use Rattle.subj.specs.declared.jobs.Job.{Job}
-use Rattle.subj.specs.declared.limits.TheConstants.{MAX_COUNTER}
+use Rattle.std.proofs.Common.{◌≡◌, ℕ, ◌+◌, take, ap, sym, subst, ◌∙◌}
+use Rattle.std.proofs.lemmas.Option.{slice_get_within}
 use Rattle.shard_core.specs.RunSteps.{GoTogether}
-use Rattle.shard_core.proofs.RunJobs.{one_more_together}
+use Rattle.shard_core.proofs.RunJobs.{run_together}
 use Rattle.shard_core.proofs.run_delivery.jobs_together.Goals as goal
 
-pub loop-job-preserved : goal.loop-job-preserved
-loop-job-preserved c =
+pub returns-clause-together : goal.returns-clause-together
+returns-clause-together c =
     let jobs = c.args.jobs.now in
-    let i = c.loop-job.job-index in
-    let job = c.job-item.result in
-    let was = c.loop-job.invariant in
-    let within = c.loop-job-test.true in
-    let next : job.turn ≡ c.loop-job.together.last + 1 =
-    sym c.get.ensures.same ∙ c.if-get.false ∙ ap (λ (n : ℕ). n + 1) c.get-in-loop-job.ensures.same in
-    let more : take (i + 1) jobs ≡ take i jobs ++ job ∷ [] =
-    take_more jobs i job within ∙ ap (λ (j : Job). take i jobs ++ j ∷ []) (sym c.job-item.is) in
-    record {
-      count = ap (λ n. n + 1) was.count;
-      most = subst (λ (n : ℕ). n ≤ MAX_COUNTER) c.get.ensures.same c.get.ensures.most;
-      within = omega (arith, within);
-      together =
-          subst (GoTogether c.args.first.now c.args.finished job.turn) (sym more)
-          (one_more_together c.args.first.now c.args.finished c.loop-job.together.last (take i jobs) job was.together
-          next (c.goes_with.ensures c.if-not-goes_with.false));
-    }
+    let first = c.args.first.now in
+    let count = c.run_len-count.result in
+    let told = c.run_len-count.ensures in
+    let turn : first.turn ≡ c.args.finished + 1 =
+    sym c.turn.ensures ∙ sym c.get.ensures.same ∙ c.if-get.false ∙ ap (λ (n : ℕ). n + 1) c.get-2.ensures.same in
+    subst (λ (n : ℕ). GoTogether first c.args.finished n (take count jobs)) (sym c.turn-2.ensures)
+    (run_together first c.get-3.result c.args.finished count jobs c.requires.first c.requires.begins turn
+    (told.some (slice_get_within jobs 0 first c.requires.first)) told.most told.run c.get-3.ensures)

@@ -1,4 +1,5 @@
-use Rattle.std.proofs.Common.{◌≡◌, true, ◌∙◌}
+use Rattle.std.proofs.Common.{◌≡◌, ℕ, true, ap, ◌∙◌}
+use Rattle.shard_core.specs.RunSteps.{subs_by_serials}
 use Rattle.shard_core.specs.Held.{shard_with}
 use Rattle.shard_core.proofs.RunSteps.{given_apart, has_delivered}
 use Rattle.shard_core.proofs.run_delivery.put_run.Goals as goal
@@ -13,8 +14,12 @@ count_run-requires-clause-apart g c =
 pub returns-clause-put : goal.returns-clause-put
 returns-clause-put g c _ s shard subs clients =
     let put : c.in-Ok.put ≡ true = c.if-not-put.false in
+    let opened = c.args.openings.now in
+    let counted =
+    c.count_run.ensures
+    ∙ ap (λ (n : ℕ). record opened { subs = subs_by_serials n c.deref.result.now opened.subs }) c.len.ensures in
     has_delivered s c.args.first.now c.args.jobs.now c.requires.alike c.requires.some c.args.shard c.args.openings.now
     c.count_run.new.self c.args.conns.now c.stage_noted.new.conns c.commit.new.self c.deref.result.now shard subs
     clients c.requires.settled c.numbers_are_apart.ensures c.in-Ok.ensures.shown (c.in-Ok.ensures.rising put)
     (c.in-Ok.ensures.staged put) (c.deref.ensures.value ∙ c.in-Ok.ensures.given put) c.commit.ensures.shown
-    c.count_run.ensures
+    counted

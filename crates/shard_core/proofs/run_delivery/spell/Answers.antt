@@ -1,22 +1,21 @@
-use Rattle.std.proofs.Common.{◌≡◌, ℕ, ◌+◌, false, List, [], ◌∷◌, ◌++◌, map, take, ap, sym, ◌∙◌}
+use Rattle.std.proofs.Common.{◌≡◌, ◌+◌, List, [], ◌∷◌, ◌++◌, map, take, ap, sym, ◌∙◌}
 use Rattle.std.proofs.lemmas.List.{take_more, map-append}
-use Rattle.client_frames.specs.Messages.{Tails, tail_for}
+use Rattle.std.proofs.lemmas.Option.{get_or_from_slice_get, slice_get_within}
 use Rattle.outbox.specs.Views.{Tail}
 use Rattle.subj.specs.declared.jobs.Job.{Job}
 use Rattle.shard_core.specs.RunSteps.{tail_of}
 use Rattle.shard_core.proofs.run_delivery.spell.Goals as goal
 
-pub loop-job-preserved : goal.loop-job-preserved
-loop-job-preserved c =
+pub loop-place-preserved : goal.loop-place-preserved
+loop-place-preserved c =
     let jobs = c.args.jobs.now in
-    let i = c.loop-job.job-index in
-    let job = c.job-item.result in
+    let i = c.loop-place.place in
+    let job = c.get.result in
     let more : map tail_of (take (i + 1) jobs) ≡ map tail_of (take i jobs) ++ tail_of job ∷ [] =
     ap (map tail_of)
-    (take_more jobs i job c.loop-job-test.true ∙ ap (λ (j : Job). take i jobs ++ j ∷ []) (sym c.job-item.is))
+    (take_more jobs i job (slice_get_within jobs i job c.get.ensures)
+    ∙ ap (λ (j : Job). take i jobs ++ j ∷ []) (get_or_from_slice_get jobs i job job c.get.ensures))
     ∙ map-append tail_of (take i jobs) (job ∷ []) in
-    c.in_ok-push.ensures.ok
-    ∙ ap (λ (l : List Tail). l ++ record { id = job.id; bytes = c.tail.result.now } ∷ []) c.loop-job.invariant
-    ∙ ap (λ (b : List ℕ). map tail_of (take i jobs) ++ record { id = job.id; bytes = b } ∷ [])
-    (c.tail.ensures.same ∙ ap (λ (t : Tails). tail_for t false) c.in_ok-write.ensures)
+    c.in_ok-spell_one.ensures
+    ∙ ap (λ (l : List Tail). l ++ tail_of job ∷ []) c.loop-place.invariant
     ∙ sym more

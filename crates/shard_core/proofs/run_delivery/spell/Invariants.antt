@@ -3,5 +3,5 @@ use Rattle.shard_core.specs.RunSteps.{tail_of}
 use Rattle.shard_core.proofs.run_delivery.spell.Given as goal
 
 -- those of the jobs so far
-abbrev pub invariant-loop-job : goal.invariant-loop-job
-invariant-loop-job l = l.tails ≡ map tail_of (take l.job-index l.jobs)
+abbrev pub invariant-loop-place : goal.invariant-loop-place
+invariant-loop-place l = l.tails ≡ map tail_of (take l.place l.jobs)

@@ -11,7 +11,7 @@ invariant_of-self g c =
     let s = c.self.inside in
     let i = c.self.invariant in
     let frame = c.args.frame.now in (
-      (does_call g.N.NodeName.race.shards (hub_at s.side s.seat.part s.finished s.outlet.jobs) c.apply_update.new.self
+      (does_call g.N.NodeName.race.shards (hub_at s.side s.seat.part s.finished s.outlet) c.apply_update.new.self
           (ByHub (Receive frame s.finished)) (λ n. OfHub (Heard frame.number))
           (receive_refusal s.side.server s.side.hub s.finished frame) c.apply_update.result
           (quiet_news s.side frame s.finished c.requires) i.0 c.apply_update.ensures).keeps,

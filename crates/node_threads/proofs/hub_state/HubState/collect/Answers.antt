@@ -10,7 +10,7 @@ invariant_of-self-2 g c =
     let s = c.self.inside in
     let told = c.in-Ok.told in
     let deltas = c.deltas.result.now in (
-      at_hub_does g.N.NodeName.race.shards (hub_at s.side s.seat.part s.finished s.outlet.jobs) c.collect.new.self
+      at_hub_does g.N.NodeName.race.shards (hub_at s.side s.seat.part s.finished s.outlet) c.collect.new.self
           (ByHub (Collect c.shard-number.result deltas))
           (OfHub (Collected told.changes.items (collect_frames s.side.server s.side.hub deltas) told.cut.items))
           (quiet_collect s.side c.shard-number.result deltas) c.in-Ok.ensures.1 c.self.invariant.0,

@@ -9,7 +9,7 @@ pub invariant_of-self : goal.invariant_of-self
 invariant_of-self g c =
     let s = c.self.inside in
     let i = c.self.invariant in (
-      (does_call g.N.NodeName.race.shards (hub_at s.side s.seat.part s.finished s.outlet.jobs) c.connect.new.self
+      (does_call g.N.NodeName.race.shards (hub_at s.side s.seat.part s.finished s.outlet) c.connect.new.self
           (BySessions (OnConnect c.args.session c.args.connect.now (seen_name s.side c.args.connect.now.server_name)))
           (λ n. OfSessions (Kept n.instead_of))
           (session_refusal s.side.server s.side.sessions

@@ -9,7 +9,7 @@ pub invariant_of-self : goal.invariant_of-self
 invariant_of-self g c =
     let s = c.self.inside in
     let i = c.self.invariant in (
-      (does_call g.N.NodeName.race.shards (hub_at s.side s.seat.part s.finished s.outlet.jobs) c.dial.new.self
+      (does_call g.N.NodeName.race.shards (hub_at s.side s.seat.part s.finished s.outlet) c.dial.new.self
           (BySessions (Dial c.args.peer)) (λ n. OfSessions (Dialed n))
           (session_refusal s.side.server s.side.sessions (Dial c.args.peer)) c.dial.result
           (quiet_sessions s.side (Dial c.args.peer)) i.0 c.dial.ensures).keeps,

@@ -10,7 +10,7 @@ pub invariant_of-self : goal.invariant_of-self
 invariant_of-self g c =
     let s = c.self.inside in
     let i = c.self.invariant in (
-      (does_call g.N.NodeName.race.shards (hub_at s.side s.seat.part s.finished s.outlet.jobs) c.drain.new.self
+      (does_call g.N.NodeName.race.shards (hub_at s.side s.seat.part s.finished s.outlet) c.drain.new.self
           (ByHub Drain) (λ n. OfHub (Drained (drain_frames s.side.server s.side.hub) n.items))
           (hub_refusal s.side.server s.side.hub Drain) c.drain.result (quiet_drain s.side) i.0 c.drain.ensures).keeps,
       i.1,

@@ -9,7 +9,7 @@ pub invariant_of-self : goal.invariant_of-self
 invariant_of-self g c =
     let s = c.self.inside in
     let i = c.self.invariant in (
-      (does_call g.N.NodeName.race.shards (hub_at s.side s.seat.part s.finished s.outlet.jobs) c.info.new.self
+      (does_call g.N.NodeName.race.shards (hub_at s.side s.seat.part s.finished s.outlet) c.info.new.self
           (BySessions (OnInfo c.args.session c.args.info.now (seen_name s.side c.args.info.now.server_name)))
           (λ n. OfSessions (KeptAfterInfo n.0.instead_of n.1))
           (session_refusal s.side.server s.side.sessions

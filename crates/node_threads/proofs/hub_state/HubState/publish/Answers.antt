@@ -31,7 +31,7 @@ unreachable-requires g c =
     (publish_refusal o.side.server o.side.hub p o.finished ≡ None)
     × IsPlanOf o.side.server o.side.hub p plan.job plan.frames.items)
     (sym c.self.view_is) (c.in_ok-job.ensures).planned in
-    let may = may_publish g.N.NodeName.race.shards (hub_at s.side s.seat.part s.finished s.outlet.jobs) p
+    let may = may_publish g.N.NodeName.race.shards (hub_at s.side s.seat.part s.finished s.outlet) p
     c.self.invariant.0 planned.0 in
     true≢false (sym ((c.in_default-issue.ensures).sure
     (subst (λ (r : RaceId). ShowsRoom r.shards s.seat.part) (sym c.requires) may.room)))
@@ -41,7 +41,7 @@ invariant_of-self-2 g c =
     let s = c.self.inside in
     let p = publication_by c.args.conn c.args.publication.now c.args.word in
     let plan = c.in_ok-job.field-0 in
-    let w = hub_at s.side s.seat.part s.finished s.outlet.jobs in
+    let w = hub_at s.side s.seat.part s.finished s.outlet in
     let job = own_job s.side.server s.side.hub p in
     let planned = subst (λ (o : AtHub).
     (publish_refusal o.side.server o.side.hub p o.finished ≡ None)
@@ -51,8 +51,8 @@ invariant_of-self-2 g c =
     let done = published_done w p plan.job plan.frames.items side planned.0 planned.1 c.commit_publish.ensures in
     let h = has_issued c.args.cells.now.shards s.seat.part c.issue.new.seat.part c.in-Ok-issue.field-0
     (c.in-Ok-issue.ensures).told in
-    let jobs_are : c.add.new.self.jobs ≡ s.outlet.jobs ++ job ∷ [] =
-    c.add.ensures ∙ (λ k. c.reserve.ensures.same k ++ planned.1.job k ∷ []) in
+    let jobs_are : c.add.new.self ≡ s.outlet ++ job ∷ [] =
+    c.in-Ok.ensures.ok ∙ (λ k. s.outlet ++ planned.1.job k ∷ []) in
     let new = issues g.N.NodeName.race.shards w side c.issue.new.seat.part (ByHub (of_hub.Publish p s.finished))
     (OfHub (of_hub.Issued job (frames_of s.side.server s.side.hub p))) job c.self.invariant.0 done h
     (ap (λ (t : HubWithSessions). t.hub.issued) c.commit_publish.ensures) refl refl

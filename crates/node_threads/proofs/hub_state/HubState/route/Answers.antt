@@ -29,7 +29,7 @@ take_message-requires-clause-taken g c =
 pub unreachable-requires-in_default-issue : goal.unreachable-requires-in_default-issue
 unreachable-requires-in_default-issue g c =
     let s = c.self.inside in
-    let w = hub_at s.side s.seat.part s.finished s.outlet.jobs in
+    let w = hub_at s.side s.seat.part s.finished s.outlet in
     let frame = c.args.frame.now in
     let planned = subst (λ (o : AtHub).
     (receive_refusal o.side.server o.side.hub o.finished frame ≡ None)
@@ -43,7 +43,7 @@ unreachable-requires-in_default-issue g c =
 pub invariant_of-self-2 : goal.invariant_of-self-2
 invariant_of-self-2 g c =
     let s = c.self.inside in
-    let w = hub_at s.side s.seat.part s.finished s.outlet.jobs in
+    let w = hub_at s.side s.seat.part s.finished s.outlet in
     let frame = c.args.frame.now in
     let job = c.in-Some.job in
     let planned = subst (λ (o : AtHub).
@@ -60,8 +60,8 @@ invariant_of-self-2 g c =
     } in
     let h = has_issued c.args.cells.now.shards s.seat.part c.issue.new.seat.part c.in-Ok-issue.field-0
     (c.in-Ok-issue.ensures).told in
-    let jobs_are : c.add.new.self.jobs ≡ s.outlet.jobs ++ job ∷ [] =
-    c.add.ensures ∙ ap (λ js. js ++ job ∷ []) c.reserve.ensures.same in
+    let jobs_are : c.add.new.self ≡ s.outlet ++ job ∷ [] =
+    c.in-Ok.ensures.ok in
     let new = issues g.N.NodeName.race.shards w side c.issue.new.seat.part (ByHub (of_hub.Receive frame s.finished))
     (OfHub (of_hub.Routed job)) job c.self.invariant.0 done h
     (ap (λ (t : HubWithSessions). t.hub.issued) c.take_message.ensures
@@ -75,7 +75,7 @@ invariant_of-self-2 g c =
 pub returns : goal.returns
 returns g c =
     let s = c.self.inside in
-    let w = hub_at s.side s.seat.part s.finished s.outlet.jobs in
+    let w = hub_at s.side s.seat.part s.finished s.outlet in
     let frame = c.args.frame.now in
     let job = c.in-Some.job in
     let planned = subst (λ (o : AtHub).
@@ -92,8 +92,8 @@ returns g c =
     } in
     let h = has_issued c.args.cells.now.shards s.seat.part c.issue.new.seat.part c.in-Ok-issue.field-0
     (c.in-Ok-issue.ensures).told in
-    let jobs_are : c.add.new.self.jobs ≡ s.outlet.jobs ++ job ∷ [] =
-    c.add.ensures ∙ ap (λ js. js ++ job ∷ []) c.reserve.ensures.same in
+    let jobs_are : c.add.new.self ≡ s.outlet ++ job ∷ [] =
+    c.in-Ok.ensures.ok in
     let new = issues g.N.NodeName.race.shards w side c.issue.new.seat.part (ByHub (of_hub.Receive frame s.finished))
     (OfHub (of_hub.Routed job)) job c.self.invariant.0 done h
     (ap (λ (t : HubWithSessions). t.hub.issued) c.take_message.ensures

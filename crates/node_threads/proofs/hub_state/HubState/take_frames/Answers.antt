@@ -9,7 +9,7 @@ pub invariant_of-self : goal.invariant_of-self
 invariant_of-self g c =
     let s = c.self.inside in
     let i = c.self.invariant in (
-      (does_call g.N.NodeName.race.shards (hub_at s.side s.seat.part s.finished s.outlet.jobs) c.take_frames.new.self
+      (does_call g.N.NodeName.race.shards (hub_at s.side s.seat.part s.finished s.outlet) c.take_frames.new.self
           (ByHub (TakeFrom c.args.peer c.args.count)) (λ n. OfHub (Taken n.items))
           (hub_refusal s.side.server s.side.hub (TakeFrom c.args.peer c.args.count)) c.take_frames.result
           (quiet_take s.side c.args.peer c.args.count) i.0 c.take_frames.ensures).keeps,

@@ -29,7 +29,7 @@ invariant_of-self-2 g c =
     let on : s.waits ≡ true = search rules in
     let some : 0 < count = omega arith in
     let delivers = subst (λ jobs. DeliversFirst jobs count s.shard.state c.deliver_first-count.new.shard.state)
-    c.waiting-jobs.ensures c.deliver_first-count.ensures.delivers in
+    c.in-Some.ensures.jobs c.deliver_first-count.ensures.delivers in
     let same = ap (λ (p : ShardPart). p.shard) c.finish_many.ensures.part ∙ same_shard count s.seat.part in (
       run_done c.runs_are_worked.ensures g.N.NodeName.race.shards s.next_index s.shard.state
           c.deliver_first-count.new.shard.state s.seat.part c.finish_many.new.seat.part s.lane.popped
@@ -48,7 +48,7 @@ returns-clause-some g c =
     let on : s.waits ≡ true = search rules in
     let some : 0 < count = omega arith in
     let delivers = subst (λ jobs. DeliversFirst jobs count s.shard.state c.deliver_first-count.new.shard.state)
-    c.waiting-jobs.ensures c.deliver_first-count.ensures.delivers in
+    c.in-Some.ensures.jobs c.deliver_first-count.ensures.delivers in
     let told = run_told c.runs_are_worked.ensures g.N.NodeName.race.shards s.next_index s.shard.state
     c.deliver_first-count.new.shard.state s.seat.part c.finish_many.new.seat.part s.lane.popped
     c.pop_behind.new.self.popped s.lane.behind s.lane.hand c.pop_behind.new.self.hand s.waits count i.0 on (i.1 on) some
@@ -70,7 +70,7 @@ returns-clause-tells g c =
     let on : s.waits ≡ true = search rules in
     let some : 0 < count = omega arith in
     let delivers = subst (λ jobs. DeliversFirst jobs count s.shard.state c.deliver_first-count.new.shard.state)
-    c.waiting-jobs.ensures c.deliver_first-count.ensures.delivers in
+    c.in-Some.ensures.jobs c.deliver_first-count.ensures.delivers in
     let told = run_told c.runs_are_worked.ensures g.N.NodeName.race.shards s.next_index s.shard.state
     c.deliver_first-count.new.shard.state s.seat.part c.finish_many.new.seat.part s.lane.popped
     c.pop_behind.new.self.popped s.lane.behind s.lane.hand c.pop_behind.new.self.hand s.waits count i.0 on (i.1 on) some
