@@ -1,15 +1,15 @@
 -- A run of messages: how many there are, how many bytes they have, and how it is kept.
 use Rattle.std.specs.Prelude.{Bool, true, false, not, ◌&&◌, nat_le}
-use Rattle.std.proofs.Common.{◌≡◌, ℕ, zero, suc, ◌+◌, ◌*◌, ◌-◌, ◌<◌, ◌≤◌, List, [], ◌∷◌, ◌++◌, length, map, take, drop, get_or, refl, sym, ap, inl, inr, ◌∙◌, arith, append_assoc, length-append, length-drop, length-take-le}
+use Rattle.std.proofs.Common.{◌≡◌, ℕ, zero, suc, ◌+◌, ◌*◌, ◌-◌, ◌<◌, ◌≤◌, List, [], ◌∷◌, ◌++◌, length, map, take, drop, get_or, refl, sym, ap, ◌∙◌, arith, append_assoc, append-nil, length-append, length-drop, length-take-le}
 use Rattle.std.proofs.Math.Nat.{mul-suc}
 use Rattle.std.proofs.Math.Seq.{take-append_seam, drop-append_seam}
 use Rattle.std.proofs.lemmas.Bool.Decides.{nat_tests}
-use Rattle.std.proofs.lemmas.List.Sums.{sum_by-cons}
+use Rattle.std.proofs.lemmas.List.Sums.{sum_by-append, sum_by-cons}
 use Rattle.std.proofs.lemmas.List.{drop-drop, drop-append-le, take-append-le, take_all}
 use Rattle.subj.specs.declared.identities.PubId.{PubId}
 use Rattle.subj.specs.declared.identities.SubId.{SubId}
 use Rattle.outbox.specs.Kept.{copied_of, written_in, kept_run}
-use Rattle.outbox.specs.Tails.{IsSpelt, tails_in, marked, mark_of}
+use Rattle.outbox.specs.Tails.{tails_in, marked, mark_of}
 use Rattle.outbox.specs.Views.{Written, Backlog, Tail, size_of, tail_bytes, run_text, message_run, has_room_for_all, spelt_entry}
 use Rattle.outbox.specs.declared.entries.Mode.TheVariants.{Plain}
 use Rattle.outbox.specs.declared.kept.Kept.{Kept}
@@ -23,8 +23,9 @@ size_cons entry entries = sum_by-cons (λ (e : Written). length e.bytes) entry e
 tail_bytes_cons : (tail : Tail) (tails : List Tail) → tail_bytes (tail ∷ tails) ≡ length tail.bytes + tail_bytes tails
 tail_bytes_cons tail tails = sum_by-cons (λ (t : Tail). length t.bytes) tail tails
 
-marked_cons : (mark : TailMark) (marks : List TailMark) → marked (mark ∷ marks) ≡ mark.len + marked marks
-marked_cons mark marks = sum_by-cons (λ (m : TailMark). m.len) mark marks
+pub marked_cons : (head_len : ℕ) (mark : TailMark) (marks : List TailMark)
+    → marked head_len (mark ∷ marks) ≡ (head_len + mark.len) + marked head_len marks
+marked_cons head_len mark marks = sum_by-cons (λ (m : TailMark). head_len + m.len) mark marks
 
 -- ---- for those who put one
 
@@ -75,78 +76,139 @@ run_text_length sub head (tail ∷ tails) =
     let size = size_cons (spelt_entry tail.id sub Plain (head ++ tail.bytes)) (message_run sub head tails) in
     omega (arith, below, both, size)
 
--- what is spelt takes up no more than the run
-pub spelt_fits : (head whole : List ℕ) (tails : List Tail) → IsSpelt head whole tails
-    → length whole ≤ length head * length tails + tail_bytes tails
-spelt_fits head whole tails (inl none) = let empty = ap length none in omega (arith, empty)
-spelt_fits head whole tails (inr all) =
-    let no_one : SubId = record { shard = 0; serial = 0 } in
-    let size = ap length all ∙ run_text_length no_one head tails ∙ run_size no_one head tails in
-    omega (arith, size)
+-- one message more
+pub text_more : (head : List ℕ) (tails : List Tail) (tail : Tail)
+    → run_text head (tails ++ tail ∷ []) ≡ run_text head tails ++ (head ++ tail.bytes)
+text_more head [] tail = append-nil (head ++ tail.bytes)
+text_more head (first ∷ tails) tail =
+    ap (λ (l : List ℕ). (head ++ first.bytes) ++ l) (text_more head tails tail)
+    ∙ sym (append_assoc (head ++ first.bytes) (run_text head tails) (head ++ tail.bytes))
 
 -- ---- how the tails are kept
 
--- one tail more, with its bytes behind the others'
-pub tails_more : (marks : List TailMark) (text bytes : List ℕ) (id : PubId) → marked marks ≡ length text
-    → tails_in (marks ++ record { id = id; len = length bytes } ∷ []) (text ++ bytes)
-    ≡ tails_in marks text ++ record { id = id; bytes = bytes } ∷ []
-tails_more [] [] bytes id all =
-    ap (λ (l : List ℕ). record { id = id; bytes = l } ∷ []) (take_all (length bytes) bytes (omega arith))
-tails_more [] (b ∷ text) bytes id all = absurd (omega arith)
-tails_more (mark ∷ marks) text bytes id all =
-    let both = marked_cons mark marks in
-    let fits : mark.len ≤ length text = omega (arith, both, all) in
-    let rest : marked marks ≡ length (drop mark.len text) =
-    let left = length-drop mark.len text in omega (arith, both, left, all) in
+-- one message more, with its bytes behind the others'
+pub tails_more : (head : List ℕ) (marks : List TailMark) (text bytes : List ℕ) (id : PubId)
+    → marked (length head) marks ≡ length text
+    → tails_in (length head) (marks ++ record { id = id; len = length bytes } ∷ []) (text ++ (head ++ bytes))
+    ≡ tails_in (length head) marks text ++ record { id = id; bytes = bytes } ∷ []
+tails_more head [] [] bytes id all =
+    ap (λ (l : List ℕ). record { id = id; bytes = take (length bytes) l } ∷ []) (drop-append_seam head bytes)
+    ∙ ap (λ (l : List ℕ). record { id = id; bytes = l } ∷ []) (take_all (length bytes) bytes (omega arith))
+tails_more head [] (b ∷ text) bytes id all = absurd (omega arith)
+tails_more head (mark ∷ marks) text bytes id all =
+    let both = marked_cons (length head) mark marks in
+    let more = head ++ bytes in
+    let size = length head + mark.len in
+    let fits : size ≤ length text = omega (arith, both, all) in
+    let head_fits : length head ≤ length text = omega (arith, fits) in
+    let behind = length-drop (length head) text in
+    let rest : marked (length head) marks ≡ length (drop size text) =
+    let left = length-drop size text in omega (arith, both, left, all) in
     let last : List TailMark = record { id = id; len = length bytes } ∷ [] in
-    ap (λ (l : List ℕ). record { id = mark.id; bytes = l } ∷ tails_in (marks ++ last) (drop mark.len (text ++ bytes)))
-    (take-append-le mark.len text bytes fits)
-    ∙ ap (λ (l : List ℕ). record { id = mark.id; bytes = take mark.len text } ∷ tails_in (marks ++ last) l)
-    (drop-append-le mark.len text bytes fits)
-    ∙ ap (λ (l : List Tail). record { id = mark.id; bytes = take mark.len text } ∷ l)
-    (tails_more marks (drop mark.len text) bytes id rest)
+    ap (λ (l : List ℕ). record { id = mark.id; bytes = take mark.len l } ∷ tails_in (length head) (marks ++ last)
+    (drop size (text ++ more)))
+    (drop-append-le (length head) text more head_fits)
+    ∙ ap (λ (l : List ℕ). record { id = mark.id; bytes = l } ∷ tails_in (length head) (marks ++ last)
+    (drop size (text ++ more)))
+    (take-append-le mark.len (drop (length head) text) more (omega (arith, fits, behind)))
+    ∙ ap (λ (l : List ℕ). record { id = mark.id; bytes = take mark.len (drop (length head) text) }
+    ∷ tails_in (length head) (marks ++ last) l)
+    (drop-append-le size text more fits)
+    ∙ ap (λ (l : List Tail). record { id = mark.id; bytes = take mark.len (drop (length head) text) } ∷ l)
+    (tails_more head marks (drop size text) bytes id rest)
 
-pub tails_length : (marks : List TailMark) (text : List ℕ) → length (tails_in marks text) ≡ length marks
-tails_length [] text = refl
-tails_length (mark ∷ marks) text = ap (λ n. suc n) (tails_length marks (drop mark.len text))
+pub tails_length : (head_len : ℕ) (marks : List TailMark) (text : List ℕ)
+    → length (tails_in head_len marks text) ≡ length marks
+tails_length head_len [] text = refl
+tails_length head_len (mark ∷ marks) text =
+    ap (λ n. suc n) (tails_length head_len marks (drop (head_len + mark.len) text))
 
-pub tails_marks : (marks : List TailMark) (text : List ℕ) → marked marks ≡ length text
-    → map mark_of (tails_in marks text) ≡ marks
-tails_marks [] text all = refl
-tails_marks (mark ∷ marks) text all =
-    let both = marked_cons mark marks in
-    let rest : marked marks ≡ length (drop mark.len text) =
-    let left = length-drop mark.len text in omega (arith, both, left, all) in
-    ap (λ (n : ℕ). record { id = mark.id; len = n } ∷ map mark_of (tails_in marks (drop mark.len text)))
-    (length-take-le mark.len text (omega (arith, both, all)))
-    ∙ ap (λ (l : List TailMark). mark ∷ l) (tails_marks marks (drop mark.len text) rest)
+pub tails_marks : (head_len : ℕ) (marks : List TailMark) (text : List ℕ) → marked head_len marks ≡ length text
+    → map mark_of (tails_in head_len marks text) ≡ marks
+tails_marks head_len [] text all = refl
+tails_marks head_len (mark ∷ marks) text all =
+    let size = head_len + mark.len in
+    let both = marked_cons head_len mark marks in
+    let behind = length-drop head_len text in
+    let rest : marked head_len marks ≡ length (drop size text) =
+    let left = length-drop size text in omega (arith, both, left, all) in
+    ap (λ (n : ℕ). record { id = mark.id; len = n } ∷ map mark_of (tails_in head_len marks (drop size text)))
+    (length-take-le mark.len (drop head_len text) (omega (arith, both, all, behind)))
+    ∙ ap (λ (l : List TailMark). mark ∷ l) (tails_marks head_len marks (drop size text) rest)
 
-pub tails_size : (marks : List TailMark) (text : List ℕ) → marked marks ≡ length text
-    → tail_bytes (tails_in marks text) ≡ marked marks
-tails_size [] text all = refl
-tails_size (mark ∷ marks) text all =
-    let both = marked_cons mark marks in
-    let left = length-drop mark.len text in
-    let below = tails_size marks (drop mark.len text) (omega (arith, both, left, all)) in
-    let first = length-take-le mark.len text (omega (arith, both, all)) in
-    let first_tail : Tail = record { id = mark.id; bytes = take mark.len text } in
-    let size = tail_bytes_cons first_tail (tails_in marks (drop mark.len text)) in
-    omega (arith, both, below, first, size)
+-- how many bytes the messages have with a head of so many
+pub marked_size : (head_len : ℕ) (tails : List Tail)
+    → marked head_len (map mark_of tails) ≡ head_len * length tails + tail_bytes tails
+marked_size head_len [] = omega arith
+marked_size head_len (tail ∷ tails) =
+    let below = marked_size head_len tails in
+    let heads = mul-suc head_len (length tails) in
+    let both = marked_cons head_len (mark_of tail) (map mark_of tails) in
+    let bytes = tail_bytes_cons tail tails in
+    let count : head_len * length (tail ∷ tails) ≡ head_len * suc (length tails) = refl in
+    omega (arith, below, heads, both, bytes, count)
+
+-- how many bytes the text of a run has
+pub text_size : (head text : List ℕ) (tails : List Tail) → text ≡ run_text head tails
+    → length text ≡ length head * length tails + tail_bytes tails
+text_size head text tails is =
+    let no_one : SubId = record { shard = 0; serial = 0 } in
+    ap length is ∙ run_text_length no_one head tails ∙ run_size no_one head tails
+
+-- a message behind those that are kept is seen behind them
+pub push_tail : (head text bytes more : List ℕ) (marks grown : List TailMark) (id : PubId)
+    → marked (length head) marks ≡ length text
+    → text ≡ run_text head (tails_in (length head) marks text)
+    → grown ≡ marks ++ record { id = id; len = length bytes } ∷ []
+    → more ≡ (text ++ head) ++ bytes
+    → (marked (length head) grown ≡ length more)
+    × (more ≡ run_text head (tails_in (length head) grown more))
+    × (tails_in (length head) grown more ≡ tails_in (length head) marks text ++ record { id = id; bytes = bytes } ∷ [])
+push_tail head text bytes more marks grown id all spelt grows puts =
+    let head_len = length head in
+    let mark : TailMark = record { id = id; len = length bytes } in
+    let tail : Tail = record { id = id; bytes = bytes } in
+    let tails = tails_in head_len marks text in
+    let joined : more ≡ text ++ (head ++ bytes) = puts ∙ append_assoc text head bytes in
+    let seen : tails_in head_len grown more ≡ tails ++ tail ∷ [] =
+    ap (λ (ms : List TailMark). tails_in head_len ms more) grows
+    ∙ ap (tails_in head_len (marks ++ mark ∷ [])) joined
+    ∙ tails_more head marks text bytes id all in
+    let count : marked head_len grown ≡ marked head_len marks + marked head_len (mark ∷ []) =
+    ap (marked head_len) grows ∙ sum_by-append (λ (m : TailMark). head_len + m.len) marks (mark ∷ []) in
+    let alone = marked_cons head_len mark [] in
+    let none : marked head_len [] ≡ 0 = refl in
+    let both : length more ≡ length text + length (head ++ bytes) =
+    ap length joined ∙ length-append text (head ++ bytes) in
+    let message = length-append head bytes in
+    let size : mark.len ≡ length bytes = refl in (
+      omega (arith, all, count, alone, none, both, message, size),
+      joined ∙ ap (λ (l : List ℕ). l ++ (head ++ bytes)) spelt ∙ sym (text_more head tails tail)
+          ∙ sym (ap (run_text head) seen),
+      seen,
+    )
 
 -- the head and the next tail are put, and those behind it are left
-pub run_step : (marks rest : List TailMark) (mark : TailMark) (head text out put : List ℕ) (start end : ℕ)
-    → marks ≡ mark ∷ rest → end ≡ start + mark.len → put ≡ (out ++ head) ++ take (end - start) (drop start text)
-    → put ++ run_text head (tails_in rest (drop end text)) ≡ out ++ run_text head (tails_in marks (drop start text))
-run_step marks rest mark head text out put start end is upto puts =
-    let tail = take mark.len (drop start text) in
-    let left = run_text head (tails_in rest (drop end text)) in
-    let len : end - start ≡ mark.len = omega arith in
-    let here : drop mark.len (drop start text) ≡ drop end text =
-    drop-drop mark.len start text ∙ ap (λ n. drop n text) (omega (arith, upto)) in
-    ap (λ l. l ++ left) (puts ∙ ap (λ n. (out ++ head) ++ take n (drop start text)) len ∙ append_assoc out head tail)
+pub run_step : (marks rest : List TailMark) (mark : TailMark) (replaced : ℕ) (head text out put : List ℕ)
+    (before start end : ℕ)
+    → marks ≡ mark ∷ rest → start ≡ before + replaced → end ≡ start + mark.len
+    → put ≡ (out ++ head) ++ take (end - start) (drop start text)
+    → put ++ run_text head (tails_in replaced rest (drop end text))
+    ≡ out ++ run_text head (tails_in replaced marks (drop before text))
+run_step marks rest mark replaced head text out put before start end is from upto puts =
+    let tail = take mark.len (drop replaced (drop before text)) in
+    let left = run_text head (tails_in replaced rest (drop end text)) in
+    let len : end - start ≡ mark.len = omega (arith, upto) in
+    let skipped : drop start text ≡ drop replaced (drop before text) =
+    ap (λ n. drop n text) (omega (arith, from)) ∙ sym (drop-drop replaced before text) in
+    let here : drop (replaced + mark.len) (drop before text) ≡ drop end text =
+    drop-drop (replaced + mark.len) before text ∙ ap (λ n. drop n text) (omega (arith, from, upto)) in
+    ap (λ l. l ++ left)
+    (puts ∙ ap (λ n. (out ++ head) ++ take n (drop start text)) len
+    ∙ ap (λ l. (out ++ head) ++ take mark.len l) skipped ∙ append_assoc out head tail)
     ∙ append_assoc out (head ++ tail) left
-    ∙ ap (λ l. out ++ ((head ++ tail) ++ run_text head (tails_in rest l))) (sym here)
-    ∙ sym (ap (λ ms. out ++ run_text head (tails_in ms (drop start text))) is)
+    ∙ ap (λ l. out ++ ((head ++ tail) ++ run_text head (tails_in replaced rest l))) (sym here)
+    ∙ sym (ap (λ ms. out ++ run_text head (tails_in replaced ms (drop before text))) is)
 
 -- ---- how the run is kept
 

@@ -1,7 +1,7 @@
 //! What the messages of a run have of their own.
 
 ghost use Rattle.std.specs.Prelude.{◌≡◌, ◌+◌, ◌*◌, ◌<◌, ◌≤◌, ◌^◌, ◌++◌, ◌∷◌, ◌==◌, nat_le, [], length, map, vec_len, vec_capacity, OnOk, OnErr, SomeIff};
-ghost use Rattle.outbox.specs.Tails.{IsSpelt, mark_of, marked, tails_in};
+ghost use Rattle.outbox.specs.Tails.{mark_of, marked, tails_in};
 ghost use Rattle.outbox.specs.Views.{tail_bytes, run_text};
 
 use line_fields::append_reserved;
@@ -40,7 +40,8 @@ pub(crate) struct TailMark {
 
 /// What the messages of a run have of their own, when the run is put for one subscription after the other: of each message its
 /// publication and its tail, the bytes behind the id of the subscription. Before a tail stands the head, which differs from
-/// subscription to subscription: [`crate::Outbox::stage_run`] puts the two together.
+/// subscription to subscription: [`crate::Outbox::stage_run`] puts the two together. The messages are kept as they are with one
+/// head, so that they are put in one piece for all subscriptions with that head.
 ///
 /// The memory is used again for the next run, unless it is much.
 ///
@@ -48,85 +49,66 @@ pub(crate) struct TailMark {
 #[derive(Drop)]
 pub struct RunTails {
     marks: Vec<TailMark>,
-    /// The bytes of all tails, one behind another.
-    text: Vec<u8>,
-    /// The head that was named last.
+    /// The head that each message has in the text.
     head: Vec<u8>,
-    /// The messages of the run with that head, where it was named twice.
-    whole: Vec<u8>,
+    /// The messages, one behind another.
+    text: Vec<u8>,
 }
 
 impl Model for RunTails {
     ghost use Rattle.std.specs.Prelude.{◌≡◌, List, length};
-    ghost use Rattle.outbox.specs.Views.{Tail};
-    ghost use Rattle.outbox.specs.Tails.{IsSpelt, tails_in, marked};
+    ghost use Rattle.outbox.specs.Views.{Tail, run_text};
+    ghost use Rattle.outbox.specs.Tails.{tails_in, marked};
 
     ghost Value = { List Tail };
 
-    ghost view = { λ tails. tails_in tails.marks.items tails.text.items };
+    ghost view = { λ tails. tails_in (length tails.head.items) tails.marks.items tails.text.items };
 
     ghost invariant = { λ tails.
-        (marked tails.marks.items ≡ length tails.text.items)
-        × IsSpelt tails.head.items tails.whole.items
-        (tails_in tails.marks.items tails.text.items) };
+        (marked (length tails.head.items) tails.marks.items ≡ length tails.text.items)
+        × (tails.text.items
+        ≡ run_text tails.head.items
+        (tails_in (length tails.head.items) tails.marks.items tails.text.items)) };
 }
 
-/// Puts the messages of a run behind the bytes that are there, each with this head, where there is room for all of them.
-fn append_each(marks: &[TailMark], text: &[u8], head: &[u8], out: &mut Vec<u8>)
-    requires whole { marked marks.now ≡ length text.now }
-    requires room { vec_len out.old
-        + (length head.now * length marks.now + length text.now)
-        ≤ vec_capacity out.old }
-    ensures { out.new.items ≡ out.old.items ++ run_text head.now (tails_in marks.now text.now) }
+/// Puts the messages of a run behind the bytes that are there, each with this head in place of the one of so many bytes that it has
+/// in the text, where there is room for all of them.
+fn append_each(marks: &[TailMark], replaced: usize, text: &[u8], head: &[u8], out: &mut Vec<u8>)
+    requires whole { marked replaced marks.now ≡ length text.now }
+    requires room { vec_len out.old + marked (length head.now) marks.now ≤ vec_capacity out.old }
+    ensures { out.new.items
+        ≡ out.old.items ++ run_text head.now (tails_in replaced marks.now text.now) }
 {
-    let mut start = 0;
+    let mut end = 0;
     for mark in marks {
-        let end = start + mark.len;
+        let start = end + replaced;
+        end = start + mark.len;
         append_reserved(out, head);
         append_reserved(out, &text[start..end]);
-        start = end;
     }
-}
-
-/// Spells the messages of a run with this head. For want of memory there are none.
-fn spell(marks: &[TailMark], text: &[u8], head: &[u8], whole: &mut Vec<u8>)
-    requires tails { marked marks.now ≡ length text.now }
-    requires none { whole.old.items ≡ [] }
-    ensures { IsSpelt head.now whole.new.items (tails_in marks.now text.now) }
-{
-    let Some(heads) = head.len().checked_mul(marks.len()) else {
-        return;
-    };
-    let Some(len) = heads.checked_add(text.len()) else {
-        return;
-    };
-    if whole.reserve(len).is_err() {
-        return;
-    }
-    append_each(marks, text, head, whole);
 }
 
 impl RunTails {
-    /// No tails.
+    /// No tails, and no head.
     pub fn new(alloc: Global) -> RunTails
         ensures { result ≡ [] }
     {
         RunTails {
             marks: Vec::new(alloc),
-            text: Vec::new(alloc),
             head: Vec::new(alloc),
-            whole: Vec::new(alloc),
+            text: Vec::new(alloc),
         }
     }
 
-    /// Drops all tails. The memory of many bytes is given back.
-    pub fn clear(&mut self)
+    /// Drops all tails: those of the next run are kept with this head. The memory of many bytes is given back. For want of memory they
+    /// are kept with none.
+    pub fn clear(&mut self, head: &[u8]) -> Result<(), AllocError>
         ensures { self.new ≡ [] }
     {
         self.marks.clear();
         let_go(&mut self.text);
         self.head.clear();
-        let_go(&mut self.whole);
+        self.head.extend_from_slice(head)
     }
 
     /// Puts the tail of a message of this publication behind. Want of memory leaves all as it was.
@@ -136,8 +118,9 @@ impl RunTails {
         ensures err { OnErr result (self.new ≡ self.old) }
     {
         self.marks.reserve(1)?;
-        self.text.extend_from_slice(tail)?;
-        self.whole.clear();
+        self.text.reserve(self.head.len() + tail.len())?;
+        append_reserved(&mut self.text, &self.head);
+        append_reserved(&mut self.text, tail);
         self.marks.push_reserved(TailMark {
             id,
             len: tail.len(),
@@ -169,14 +152,21 @@ impl RunTails {
         &self.marks
     }
 
+    /// How many bytes the tails have together.
+    fn tail_bytes(&self) -> usize
+        ensures { result ≡ tail_bytes self.now }
+    {
+        self.text.len() - self.head.len() * self.marks.len()
+    }
+
     /// How many bytes the messages of the run have where their head has so many; none where the number does not fit.
     pub(crate) fn run_len(&self, head_len: usize) -> Option<usize>
         ensures { SomeIff result (head_len * length self.now + tail_bytes self.now < 2 ^ 64)
             (head_len * length self.now + tail_bytes self.now) }
     {
         head_len
-            .checked_mul(self.marks.len())?
-            .checked_add(self.text.len())
+            .checked_mul(self.len())?
+            .checked_add(self.tail_bytes())
     }
 
     /// Whether so many bytes that are there and those of the messages of the run, whose head has so many, come to at most so many.
@@ -190,34 +180,16 @@ impl RunTails {
         }
     }
 
-    /// The run is put with this head next. Where that is so a second time, its messages are spelt as they are with it, and then put in one
-    /// piece, as long as no other head is named. For want of memory they are not.
-    pub fn name_head(&mut self, head: &[u8])
-        ensures { self.new ≡ self.old }
-    {
-        if self.head.as_slice() != head {
-            self.whole.clear();
-            self.head.clear();
-            if self.head.extend_from_slice(head).is_err() {
-                self.head.clear();
-            }
-            return;
-        }
-        if self.whole.is_empty() {
-            spell(&self.marks, &self.text, head, &mut self.whole);
-        }
-    }
-
     /// Puts the messages of the run behind the bytes that are there, each with this head, where there is room for all of them.
     pub(crate) fn append_run(&self, head: &[u8], out: &mut Vec<u8>)
         requires { vec_len out.old + (length head.now * length self.now + tail_bytes self.now)
             ≤ vec_capacity out.old }
         ensures { out.new.items ≡ out.old.items ++ run_text head.now self.now }
     {
-        if !self.whole.is_empty() && self.head.as_slice() == head {
-            append_reserved(out, &self.whole);
+        if self.head.as_slice() == head {
+            append_reserved(out, &self.text);
             return;
         }
-        append_each(&self.marks, &self.text, head, out);
+        append_each(&self.marks, self.head.len(), &self.text, head, out);
     }
 }

@@ -191,7 +191,7 @@ fn push_tail(tails: &mut RunTails, alloc: Global, word: &str) -> Option<()> {
 /// Puts these tails, in the memory of one that is dropped.
 fn push_tails(tails: &mut RunTails, alloc: Global, words: &str) -> Option<()> {
     push_tail(tails, alloc, "dropped")?;
-    tails.clear();
+    tails.clear(b"MSG foo 1").ok()?;
     for word in words.split('|') {
         push_tail(tails, alloc, word)?;
     }

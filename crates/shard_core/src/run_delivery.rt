@@ -1,6 +1,6 @@
 //! A run of jobs of one subject, delivered at once to the receivers that are noted.
 
-ghost use Rattle.std.specs.Prelude.{◌≡◌, ◌+◌, ◌<◌, ◌≤◌, ◌^◌, ◌++◌, ◌∷◌, [], true, false, Some, filter, map, length, slice_get, take, All, IfOk, OnOk, OnErr};
+ghost use Rattle.std.specs.Prelude.{◌≡◌, ◌+◌, ◌<◌, ◌≤◌, ◌^◌, ◌++◌, ◌∷◌, [], true, false, Some, None, filter, map, length, slice_get, take, All, IfOk, OnOk, OnErr};
 ghost use Rattle.list_laws.specs.Lists.{Each};
 ghost use Rattle.sub_table.specs.Subscriptions.{gets};
 ghost use Rattle.shard_core.specs.Boxes.{IsSettled};
@@ -39,16 +39,16 @@ fn is_due(job: &LentJob<'_>, receiver: &Receiver) -> bool
     receiver.is_plain() && is_echoed_to(job.publisher(), job.echo(), receiver.conn())
 }
 
-/// Whether Begin places the job for any of these.
-fn any_due(job: &LentJob<'_>, receivers: &[Receiver]) -> bool
-    ensures { result ≡ false → filter (is_due_to job.now) receivers.now ≡ [] }
+/// The first of these for which Begin places the job.
+fn first_due<'a>(job: &LentJob<'_>, receivers: &'a [Receiver]) -> Option<&'a Receiver>
+    ensures { result ≡ None → filter (is_due_to job.now) receivers.now ≡ [] }
 {
     for receiver in receivers {
         if is_due(job, receiver) {
-            return true;
+            return Some(receiver);
         }
     }
-    false
+    None
 }
 
 /// Jobs that go together: how many, and the turn of the last one.
@@ -118,14 +118,16 @@ fn spell_one(
 }
 
 /// Spells what stands behind the ids of subscriptions in the messages of these jobs, without header blocks, in place of what was there.
+/// They are kept as they are for this receiver, and for all who call their subscriptions the same.
 fn spell(
     message: &mut MessageTails,
     tails: &mut RunTails,
+    receiver: &Receiver,
     jobs: &JobSlice<'_>,
 ) -> Result<(), AllocError>
     ensures { OnOk result (tails.new ≡ map tail_of jobs.now) }
 {
-    tails.clear();
+    tails.clear(message.head(receiver.head(), false))?;
     for place in 0..jobs.len() {
         spell_one(message, tails, &jobs.get(place))?;
     }
@@ -183,8 +185,6 @@ fn stage_if_due(
         return Ok(false);
     }
     buffer.given.push(receiver.serial())?;
-    let head = buffer.message.head(receiver.head(), false);
-    buffer.tails.name_head(head);
     stage_for(buffer, conns, shard, receiver)
 }
 
@@ -232,10 +232,10 @@ fn stage_run(
         put ≡ true → buffer.new.given.items ≡ due_serials first.now receivers.now) }
 {
     buffer.given.clear();
-    if !any_due(first, receivers) {
+    let Some(due) = first_due(first, receivers) else {
         return Ok(true);
-    }
-    spell(&mut buffer.message, &mut buffer.tails, jobs)?;
+    };
+    spell(&mut buffer.message, &mut buffer.tails, due, jobs)?;
     stage_each(buffer, conns, shard, first, receivers)
 }
 
