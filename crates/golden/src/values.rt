@@ -84,12 +84,29 @@ fn reply_of(alloc: Global, word: &str) -> Option<Option<Reply>> {
     }
 }
 
-/// The message on a subject, with one that an answer is awaited on, or none where that word is empty.
-pub fn message_of(alloc: Global, subject: &str, reply: &str, payload: &str) -> Option<Message> {
-    let payload = payload_of(alloc, payload)?;
+/// A subject, and the one that an answer is awaited on, or none where that word is empty.
+fn address_of(alloc: Global, subject: &str, reply: &str) -> Option<(Subject, Option<Reply>)> {
     let subject = subject_of(alloc, subject)?;
     let reply = reply_of(alloc, reply)?;
-    Message::new(alloc, subject, reply, None, payload).ok()?
+    Some((subject, reply))
+}
+
+/// The message of an address, a header block or none, and the payload that a word is.
+fn message_at(
+    alloc: Global,
+    address: (Subject, Option<Reply>),
+    block: Option<Bytes>,
+    payload: &str,
+) -> Option<Option<Message>> {
+    let payload = payload_of(alloc, payload)?;
+    let (subject, reply) = address;
+    Message::new(alloc, subject, reply, block, payload).ok()
+}
+
+/// The message on a subject, with one that an answer is awaited on, or none where that word is empty.
+pub fn message_of(alloc: Global, subject: &str, reply: &str, payload: &str) -> Option<Message> {
+    let address = address_of(alloc, subject, reply)?;
+    message_at(alloc, address, None, payload)?
 }
 
 /// The same with a header block before its payload; none of them where the block is none, or both are too long.
@@ -100,10 +117,9 @@ pub fn headed_message_of(
     block: &str,
     payload: &str,
 ) -> Option<Option<Message>> {
-    let (block, payload) = (payload_of(alloc, block)?, payload_of(alloc, payload)?);
-    let subject = subject_of(alloc, subject)?;
-    let reply = reply_of(alloc, reply)?;
-    Message::new(alloc, subject, reply, Some(block), payload).ok()
+    let address = address_of(alloc, subject, reply)?;
+    let block = payload_of(alloc, block)?;
+    message_at(alloc, address, Some(block), payload)
 }
 
 /// The message with a header block, or with none where that word is empty.
