@@ -3,22 +3,16 @@
 ghost use Rattle.std.specs.Prelude.{◌≡◌};
 ghost use Rattle.interest.specs.Faults.{interest_fault_number};
 
-use thiserror::Error;
-
 /// Why a delta or a peer's change is refused. (Profile.)
-#[derive(Clone, Copy, Debug, PartialEq, Eq, Error)]
+#[derive(Clone, Copy)]
 pub enum InterestFault {
     /// A change or a snapshot is not newer than what is known of the peer.
-    #[error("the change or the snapshot is not newer than what is known of the peer")]
     Late = 40,
     /// A change is not the next one.
-    #[error("the change is not the next one")]
     Gap = 41,
     /// What is withdrawn is not there.
-    #[error("what is withdrawn is not there")]
     UnknownKey = 42,
     /// There would be too many keys, too many subscriptions of one key, or keys of too many bytes.
-    #[error("there would be too many keys, or too many subscriptions of one")]
     TooManyKeys = 43,
 }
 

@@ -10,14 +10,12 @@ ghost use Rattle.interest.specs.Matches.{add_name, add_queue as with_queue, AreG
 use arrayvec::ArrayVec;
 use std::marker::Model;
 use subj::{Key, MAX_QUEUE_NAMES, QueueName};
-use thiserror::Error;
 
 /// The most names, as the length of a list.
 const PLACES: usize = MAX_QUEUE_NAMES as usize;
 
 /// One publication would have more than [`MAX_QUEUE_NAMES`] queue names. (Profile.)
-#[derive(Clone, Copy, Debug, PartialEq, Eq, Error)]
-#[error("more queue names match than the {most} that a publication may have", most = MAX_QUEUE_NAMES)]
+#[derive(Clone, Copy)]
 pub struct TooManyNames;
 
 /// The bytes of the name; none where there is no name.
