@@ -4,26 +4,21 @@ ghost use Rattle.std.specs.Prelude.{◌≡◌};
 ghost use Rattle.route_frames.specs.Faults.{route_fault_number};
 
 use subj::Failure;
-use thiserror::Error;
 
 /// Why a frame of a route is refused. Causes are looked for in this order: the operation, the number of
 /// fields, too many queue names, numbers that are no digits, numbers out of their ranges, all else.
 /// (Profile.)
-#[derive(Clone, Copy, Debug, PartialEq, Eq, Error)]
+#[derive(Clone, Copy)]
 pub enum RouteFault {
     /// The line is empty or begins with a blank, or its first field is no operation.
-    #[error("the line begins with no known operation of a route")]
     UnknownOp = 30,
     /// Too few or too many fields, a field that is not what its place asks for, a text that is not the
     /// JSON that it has to be, a snapshot or a header block that is none, or a payload of another length
     /// than announced.
-    #[error("the operation has other fields than it takes, or another payload than it announced")]
     BadArgs = 31,
     /// A number is out of its range.
-    #[error("a number is out of its range")]
     BadNumber = 32,
     /// More queue names than one publication may reach.
-    #[error("there are more queue names than one publication may reach")]
     TooManyQueues = 33,
 }
 

@@ -27,13 +27,10 @@ use bytes::Bytes;
 use line_fields::split_line;
 use route_values::{Body, Numbered, RouteConnect, RouteFrame, RouteInfo, WeightedKey};
 use std::alloc::{AllocError, Global};
-use std::fmt;
-use std::fmt::{Debug, Formatter, Write};
 use subj::{
     Failure, HEADER_START, Incarnation, Key, MAX_PAYLOAD, Message, MessageBody, MessageParts,
     NameFault, NodeId, Pattern, QueueName, QueueNames, Reply, Subject,
 };
-use thiserror::Error;
 
 /// What the line of a numbered frame says behind the common fields.
 pub(crate) enum LineBody {
@@ -89,26 +86,13 @@ pub enum RouteLine {
     Numbered(NumberedLine),
 }
 
-/// Tells which kind of frame it is of, and nothing more.
-impl Debug for RouteLine {
-    fn fmt<W: Write>(&self, f: &mut Formatter<W>) -> fmt::Result {
-        match self {
-            RouteLine::Info(_) => f.write_str("Info"),
-            RouteLine::Connect(_) => f.write_str("Connect"),
-            RouteLine::Numbered(_) => f.write_str("Numbered"),
-        }
-    }
-}
-
 /// Why a line and its payload were joined to no frame.
-#[derive(Debug, Drop, Error)]
+#[derive(Drop)]
 pub enum Unjoined {
     /// The payload is not what the line announces.
-    #[error("the payload is refused: {0}")]
     Refused(RouteFault),
     /// The allocator gave no memory for the keys of a snapshot, or for a message, which shares the
     /// payload. Nothing is lost: both are here as they were, so that they can be joined later.
-    #[error("out of memory")]
     OutOfMemory { line: RouteLine, payload: Bytes },
 }
 
