@@ -44,17 +44,6 @@ pub enum Command<'a> {
     },
 }
 
-/// The option of this name, which is a number.
-fn number<'a>(alloc: Global, name: &'a str, help: &'a str) -> Arg<'a>
-    ensures { HasRule result (number_rule name.entry.now) }
-{
-    Arg::new(alloc, name)
-        .long(name)
-        .value_name("N")
-        .value_parser(ValueParser::Unsigned(0, u64::MAX))
-        .help(help)
-}
-
 /// The option of this name, which is a text.
 fn text<'a>(alloc: Global, name: &'a str, value_name: &'a str, help: &'a str) -> Arg<'a>
     ensures { HasRule result (text_rule name.entry.now) }
@@ -63,6 +52,13 @@ fn text<'a>(alloc: Global, name: &'a str, value_name: &'a str, help: &'a str) ->
         .long(name)
         .value_name(value_name)
         .help(help)
+}
+
+/// The option of this name, which is a number.
+fn number<'a>(alloc: Global, name: &'a str, help: &'a str) -> Arg<'a>
+    ensures { HasRule result (number_rule name.entry.now) }
+{
+    text(alloc, name, "N", help).value_parser(ValueParser::Unsigned(0, u64::MAX))
 }
 
 /// The word at a place of the line, which has to be there.

@@ -3,7 +3,6 @@
 ghost use Rattle.std.specs.Prelude.{◌≡◌};
 ghost use Rattle.router_command.specs.Ranges.{range_of};
 
-use std::error::Error;
 use std::fmt;
 use std::fmt::{Display, Formatter, Write};
 use subj::{MAX_INCARNATION, MAX_NODE_NAME, MAX_NODES, MAX_SHARDS};
@@ -15,7 +14,7 @@ pub const MOST_DRAIN_SECONDS: u64 = 3_600;
 pub const MOST_PATH_BYTES: usize = 107;
 
 /// An option of the command line.
-#[derive(Clone, Copy, Debug)]
+#[derive(Clone, Copy)]
 pub enum OptionName {
     Nodes,
     Port,
@@ -57,7 +56,7 @@ impl OptionName {
 }
 
 /// Why the options are none. (Profile.)
-#[derive(Clone, Copy, Debug)]
+#[derive(Clone, Copy)]
 pub enum OptionFault {
     /// The value of the option is not in its range.
     BadValue(OptionName),
@@ -94,5 +93,3 @@ impl Display for OptionFault {
         }
     }
 }
-
-impl Error for OptionFault {}
