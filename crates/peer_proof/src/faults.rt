@@ -4,7 +4,7 @@ use std::fmt;
 use std::fmt::{Display, Formatter, Write};
 
 /// Why an end of a handshake goes on no further. Its connection is closed, and nothing is told to the other end.
-#[derive(Clone, Copy, Debug, PartialEq, Eq)]
+#[derive(Clone, Copy)]
 pub enum ProofFault {
     /// A `HELLO` was due, and the line is none.
     NoHello,
@@ -19,7 +19,7 @@ pub enum ProofFault {
 }
 
 /// Why bytes are no secret.
-#[derive(Clone, Copy, Debug, PartialEq, Eq)]
+#[derive(Clone, Copy, PartialEq, Eq)]
 pub enum SecretFault {
     /// They are fewer than 16.
     TooShort,

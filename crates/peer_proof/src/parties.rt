@@ -11,7 +11,7 @@ use sha2::{Digest, Sha256};
 use subj::NodeId;
 
 /// Which end of a connection makes a proof.
-#[derive(Clone, Copy, Debug, PartialEq, Eq)]
+#[derive(Clone, Copy)]
 pub enum Role {
     /// The server that dialed.
     Dialer,
