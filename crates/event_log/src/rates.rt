@@ -7,6 +7,7 @@ ghost use Rattle.server_events.specs.Kinds.{place_of};
 
 use arrayvec::ArrayVec;
 use server_events::{EventKind, KINDS};
+use std::array;
 
 /// The most lines of a kind that are told in a second.
 pub const LINES_A_SECOND: usize = 10;
@@ -89,23 +90,7 @@ impl Rates {
     /// None was told.
     pub fn new() -> Rates {
         Rates {
-            all: [
-                Rate::new(),
-                Rate::new(),
-                Rate::new(),
-                Rate::new(),
-                Rate::new(),
-                Rate::new(),
-                Rate::new(),
-                Rate::new(),
-                Rate::new(),
-                Rate::new(),
-                Rate::new(),
-                Rate::new(),
-                Rate::new(),
-                Rate::new(),
-                Rate::new(),
-            ],
+            all: array::from_fn(|_| Rate::new()),
         }
     }
 

@@ -4,13 +4,10 @@ use crate::backlog::{Backlog, Counts, LINES, Line};
 use crate::lines::{count_form, lost_form};
 use server_events::{Event, EventKind, EventSink, Events, LevelFilter};
 use std::alloc::{AllocError, Global};
-use std::error::Error;
-use std::fmt::{Display, Formatter, Write};
 use std::rt::Clock;
 use std::sync::{Arc, Condvar, Mutex, Wait};
-use std::thread::Threads;
+use std::thread::{self, Threads};
 use std::time::{Duration, Instant, SystemTime};
-use std::{fmt, thread};
 use subj::NodeId;
 
 /// How often counts of what was not told are told, at most, in milliseconds.
@@ -23,24 +20,13 @@ const IDLE: u64 = 3_600_000;
 const LAST_LINES: u64 = 1_000;
 
 /// Why no log was started.
-#[derive(Clone, Copy, Debug)]
+#[derive(Clone, Copy)]
 pub enum StartFault {
     /// No thread was to be had for what writes it.
     NoThread,
     /// There was no memory.
     OutOfMemory,
 }
-
-impl Display for StartFault {
-    fn fmt<W: Write>(&self, f: &mut Formatter<W>) -> fmt::Result {
-        f.write_str(match self {
-            StartFault::NoThread => "no thread for what standard error is told",
-            StartFault::OutOfMemory => "out of memory",
-        })
-    }
-}
-
-impl Error for StartFault {}
 
 impl From<AllocError> for StartFault {
     fn from(_: AllocError) -> StartFault {
