@@ -167,10 +167,17 @@ impl Opened {
     pub(crate) fn remember(&mut self, subject: &Subject)
         ensures { subs_in_order self.new.subs ≡ subs_in_order self.old.subs }
     {
-        if self.len() == 0
-            || !self.recent.is_due()
-            || self.recent.recall(subject.bytes()).is_some()
-        {
+        if self.len() > 0 && self.recent.is_due() {
+            self.keep_in_mind(subject);
+        }
+    }
+
+    /// Keeps in mind which match the subject, where there is memory.
+    #[inline(never)]
+    fn keep_in_mind(&mut self, subject: &Subject)
+        ensures { subs_in_order self.new.subs ≡ subs_in_order self.old.subs }
+    {
+        if self.recent.recall(subject.bytes()).is_some() {
             return;
         }
         if let Ok(serials) = self.serials_for(subject) {

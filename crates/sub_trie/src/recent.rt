@@ -57,23 +57,24 @@ fn first_place(hash: u64) -> usize
     (hash % PLACES) as usize
 }
 
-/// The first of its slots whose subject has this hash.
-fn place_of(hashes: &[u64], hash: u64) -> Option<usize> {
-    let first = first_place(hash);
+/// The first of the slots from this place on that has this hash. A slot that never had a subject has 0.
+fn place_of(hashes: &[u64], first: usize, hash: u64) -> Option<usize>
+    requires { first < PLACES }
+{
     let ways = hashes.get(first..first + WAYS)?;
     let way = ways.iter().position(|kept| *kept == hash)?;
     first.checked_add(way)
 }
 
-/// The slot for a subject of this hash: the one that has such a subject, or else this one of its own.
+/// The slot for a subject of this hash: the one that has such a subject, or else one that never had any, or else this one of its own.
 /// The hash is noted where there is memory.
 fn take_place(hashes: &mut Vec<u64>, hash: u64, way: usize) -> usize
     requires { way < WAYS }
 {
-    if let Some(place) = place_of(hashes, hash) {
-        return place;
-    }
-    let place = first_place(hash) + way;
+    let first = first_place(hash);
+    let same = place_of(hashes, first, hash);
+    let free = place_of(hashes, first, 0);
+    let place = same.or(free).unwrap_or(first + way);
     if hashes.is_empty() && hashes.resize(SLOTS, 0).is_err() {
         return place;
     }
@@ -126,7 +127,8 @@ impl Recent {
             → AreRight subs self.now.generation self.now.slots.items
             → IfSome result (λ serials. serials.now ≡ serials_for subject.now subs) }
     {
-        let place = place_of(&self.hashes, hash_of(subject))?;
+        let hash = hash_of(subject);
+        let place = place_of(&self.hashes, first_place(hash), hash)?;
         let slot = self.slots.get(place)?;
         if slot.is_of(self.generation, subject) {
             Some(slot.serials())
