@@ -290,16 +290,18 @@ impl SharedTexts {
         self.block.freeze_to(text.len())
     }
 
-    /// A copy of bytes that are a subject.
+    /// A copy of bytes, where they are a subject. Want of memory comes only where they are one.
     #[inline(never)]
-    pub(crate) fn new_subject(&mut self, text: &[u8]) -> Result<Subject, AllocError>
-        requires { subject_fault text.now ≡ None }
-        ensures { IfOk result (λ subject. subject ≡ text.now) }
+    pub(crate) fn new_subject(&mut self, text: &[u8]) -> Result<Option<Subject>, AllocError>
+        ensures ok { IfOk result (λ subject.
+            subject ≡ (if is_some (subject_fault text.now) then None else Some text.now)) }
+        ensures err { OnErr result (subject_fault text.now ≡ None) }
     {
-        match Subject::from_shared(self.copy(text)?) {
-            Ok(subject) => Ok(subject),
-            // required: the bytes are a subject
-            Err(_) => unreachable!(),
+        // copied first: most are subjects, and the copy is judged once
+        match self.copy(text) {
+            Ok(copy) => Ok(Subject::from_shared(copy).ok()),
+            Err(_) if Subject::fault(text).is_some() => Ok(None),
+            Err(lack) => Err(lack),
         }
     }
 
@@ -328,10 +330,7 @@ impl SharedTexts {
                 return Ok(Some(last));
             }
         }
-        if Subject::fault(text).is_some() {
-            return Ok(None);
-        }
-        Ok(Some(self.new_subject(text)?))
+        self.new_subject(text)
     }
 }
 
@@ -348,7 +347,8 @@ const COUNT_DIGITS: usize = 10;
 /// a `SUB` is bad. (Profile.)
 ///
 /// Want of memory comes only for a command that keeps names, and for the JSON of a `CONNECT`, good or
-/// bad. All other tests come before the first allocation. The subjects of publications share the memory of the texts.
+/// bad. All other tests come before the first allocation, but a publication's subject is copied before it is judged. The subjects of
+/// publications share the memory of the texts.
 pub fn decode_line(texts: &mut SharedTexts, line: &[u8]) -> Result<ClientLine, Failure<LineFault>>
     ensures { ClientLineMeans (line_meaning line.now) result }
 {
@@ -438,7 +438,7 @@ fn read_reply(texts: &mut SharedTexts, reply: Option<&[u8]>) -> Result<Option<Re
 {
     match reply {
         None => Ok(None),
-        Some(reply) => Ok(Some(texts.new_subject(reply)?)),
+        Some(reply) => texts.new_subject(reply),
     }
 }
 
