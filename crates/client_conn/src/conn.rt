@@ -29,6 +29,7 @@ use client_frames::{
     Awaited, ClientLine, ErrText, InfoData, LineFault, Options, PubHead, ReplyFrame, SharedTexts,
     decode_line,
 };
+use publication_runs::may_be_on;
 use std::alloc::{AllocError, AllocFailed, Global};
 use std::marker::Model;
 use std::mem;
@@ -363,13 +364,17 @@ impl ItemReader {
         }
     }
 
-    /// Takes back the message of a publication that was answered, if it was one: the next is on its subject most often.
+    /// Takes back the message of a publication that was answered, if it was one: the next is on its subject most often. A new subject
+    /// is not kept where the next is seen to be on another.
     pub fn take_back(&mut self, message: Option<Message>)
         ensures { self.new ≡ self.old }
     {
         let Some(message) = message else {
             return;
         };
+        if !self.texts.is_again() && !may_be_on(self.cutter.unread(), message.subject()) {
+            return;
+        }
         if let Some(subject) = subject_of(message) {
             self.texts.keep(subject);
         }

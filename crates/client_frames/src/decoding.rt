@@ -253,6 +253,7 @@ impl SharedTexts {
         };
         let size = size?;
         let subject = self.last_subject.take()?;
+        self.is_again = true;
         Some(PubHead {
             subject,
             reply: None,
@@ -303,6 +304,11 @@ impl SharedTexts {
             Err(_) if Subject::fault(text).is_some() => Ok(None),
             Err(lack) => Err(lack),
         }
+    }
+
+    /// Whether the subject that was read last was the one that was kept.
+    pub fn is_again(&self) -> bool {
+        self.is_again
     }
 
     /// The subject that is kept, where one is.

@@ -25,4 +25,4 @@ mod lines;
 mod runs;
 
 pub use laws::{publication_is_read, run_is_found, run_is_read};
-pub use runs::{LentAhead, LentRun};
+pub use runs::{LentAhead, LentRun, may_be_on};

@@ -34,6 +34,16 @@ fn pass_line<'a>(
     Some(behind)
 }
 
+/// Whether a text may begin with a publication on this subject, as far as it goes: it does not begin with one on another that is plainly
+/// written.
+pub fn may_be_on(text: &[u8], subject: &Subject) -> bool {
+    let Some(fields) = behind(text, PUB) else {
+        return true;
+    };
+    let subject = subject.bytes();
+    fields.len() < subject.len() || behind(fields, subject).is_some()
+}
+
 /// Publications that a connection lends: they stand one behind another in what was read, plainly written, on one subject: `PUB` in
 /// capitals, one blank before each field, and CR LF; then the payload, whole, of at most [`SHORT_BYTES`](job_block::SHORT_BYTES) bytes, and
 /// CR LF. Nothing is copied, and it takes no memory. (NATS documentation, "Client Protocol": `PUB`.)

@@ -12,6 +12,7 @@ use publication_runs::{LentRun, run_is_read};
 
 impl ItemReader {
     /// The publications that are lent, at most so many, where one begins on the subject of the last one.
+    #[inline(always)]
     fn lent_run(&self, most: usize, echo: bool) -> Option<LentRun<'_>>
         ensures { IfSome result (λ lent.
             (end_of self.now ≡ waits awaits.Line lent.run.behind)
@@ -30,6 +31,7 @@ impl Conn {
     /// The publications that are lent, at most so many: those of a client that is not told of what is done, where nothing else stands to
     /// be asked, on the subject of the last one. Whoever has published some of them says so ([`Conn::use_up_to`]); all others are what
     /// [`Conn::next`] asks.
+    #[inline(always)]
     pub fn lent_run(&self, most: usize) -> Option<LentRun<'_>>
         ensures lent { IfSome result (IsRunOf self.now) }
         ensures most { IfSome result (λ lent. lent.run.left ≡ most) }
