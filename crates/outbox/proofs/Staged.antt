@@ -1,5 +1,5 @@
 -- What an outbox's fields keep, and how it is seen, where an entry is put behind.
-use Rattle.std.specs.Prelude.{Result, Ok, Err, OnErr, Some, None}
+use Rattle.std.specs.Prelude.{Result, Ok, Err, OnErr, OnOk, is_err, Some, None}
 use Rattle.std.proofs.Common.{◌≡◌, ℕ, ◌+◌, ◌≤◌, Bool, true, false, not, ◌&&◌, nat_lt, nat_le, List, [], ◌∷◌, ◌++◌, length, take, refl, sym, ap, ◌∙◌, arith, length-append}
 use Rattle.std.proofs.lemmas.Bool.Decides.{nat_tests}
 use Rattle.std.proofs.lemmas.List.{take-append-le, take_all}
@@ -141,6 +141,11 @@ pub seen_with : (entries next : List Written) (entry : Written) (shown max_entri
     })
 seen_with entries next entry shown max_entries max_bytes shut closing within put =
     seen_with_all entries next (entry ∷ []) shown max_entries max_bytes shut closing within put
+
+-- what holds where it was done
+pub ok_of : {T E P : Type 0} (r : Result T E) → is_err r ≡ false → OnOk r P → P
+ok_of (Ok x) is p = p
+ok_of (Err e) is p = absurd (cc)
 
 -- a failure leaves it so
 pub left_after : {T E P : Type 0} (r : Result T E) → P → OnErr r P

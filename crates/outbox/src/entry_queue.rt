@@ -7,7 +7,7 @@ ghost use Rattle.outbox.specs.Kept.{copied_of, written_in};
 
 use crate::byte_queue::ByteQueue;
 use crate::entries::{Entry, Tag};
-use crate::kept_queue::KeptQueue;
+use crate::kept_entries::KeptEntries;
 use crate::run_tails::RunTails;
 use bytes::Bytes;
 use line_fields::CR_LF;
@@ -22,7 +22,7 @@ pub const COPIED_BYTES: usize = 4_096;
 /// Puts the bytes of the first entries behind those that are there. For want of memory some of them may
 /// stand there.
 fn append_first(
-    kept: &KeptQueue,
+    kept: &KeptEntries,
     text: &[u8],
     count: usize,
     out: &mut Vec<u8>,
@@ -43,7 +43,7 @@ fn append_first(
 /// Copies of the first entries.
 fn copy_first(
     alloc: Global,
-    kept: &KeptQueue,
+    kept: &KeptEntries,
     text: &[u8],
     count: usize,
 ) -> Result<Vec<Entry>, AllocError>
@@ -68,7 +68,7 @@ fn copy_first(
 #[derive(Drop)]
 pub(crate) struct EntryQueue {
     text: ByteQueue,
-    kept: KeptQueue,
+    kept: KeptEntries,
 }
 
 impl Model for EntryQueue {
@@ -94,7 +94,7 @@ impl EntryQueue {
     {
         Ok(EntryQueue {
             text: ByteQueue::new(alloc),
-            kept: KeptQueue::new(alloc)?,
+            kept: KeptEntries::new(alloc)?,
         })
     }
 
@@ -271,9 +271,12 @@ impl EntryQueue {
         ensures err { OnErr result (self.new.entries ≡ self.old.entries) }
         ensures kept { self.old.places ≤ self.new.places }
     {
-        self.kept.reserve_run(tails.len())?;
+        let before = self.text.as_slice().len();
         let len = self.text.push_run(head, tails)?;
-        self.kept.push_run(sub, head.len(), tails.marks());
+        if self.kept.push_run(sub, head.len(), tails.marks()).is_err() {
+            self.text.truncate(before);
+            return Err(AllocError);
+        }
         Ok(len)
     }
 

@@ -52,7 +52,7 @@ fn any_whole(kept: &VecDeque<Kept>) -> bool
 
 /// Puts the bytes of an entry that was copied and has so many, with which `text` begins, behind those that are there, and tells
 /// how many they are. Want of memory leaves all as it was.
-fn append_copied(len: usize, text: &[u8], out: &mut Vec<u8>) -> Result<usize, AllocError>
+pub(crate) fn append_copied(len: usize, text: &[u8], out: &mut Vec<u8>) -> Result<usize, AllocError>
     requires { len ≤ length text.now }
     ensures len { IfOk result (λ appended. appended ≡ len) }
     ensures ok { OnOk result (out.new.items ≡ out.old.items ++ take len text.now) }
@@ -81,7 +81,7 @@ fn append_kept(kept: &Kept, text: &[u8], out: &mut Vec<u8>) -> Result<usize, All
 }
 
 /// A copy of an entry that was copied and has so many bytes, with which `text` begins; and how many they are.
-fn copy_copied(
+pub(crate) fn copy_copied(
     alloc: Global,
     tag: Tag,
     len: usize,
@@ -197,6 +197,28 @@ impl KeptQueue {
             marks: VecDeque::new(alloc),
             others: VecDeque::with_capacity(alloc, 1)?,
         })
+    }
+
+    /// There is a place for at least one entry.
+    pub(crate) fn has_place(&self)
+        ensures { 1 ≤ self.now.places }
+    {
+        let _ = &self.marks;
+    }
+
+    /// There are few enough entries to count them together with others, since each takes memory.
+    #[inline(always)]
+    pub(crate) fn are_few(&self)
+        ensures { length self.now.items < 2 ^ 63 }
+    {
+        let (marks, more_marks) = self.marks.as_slices();
+        let (others, more_others) = self.others.as_slices();
+        let _ = (
+            marks.len(),
+            more_marks.len(),
+            others.len(),
+            more_others.len(),
+        );
     }
 
     /// How many entries there are.

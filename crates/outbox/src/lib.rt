@@ -9,16 +9,20 @@
 //! ```
 //!
 //! In reading order: `entries` is what waits, `run_tails` what the messages of a run have of their own, `kept` how one entry is kept,
-//! `byte_queue`, `kept_queue` and `entry_queue` how all are, and `outbox` is the outbox.
+//! `byte_queue` how the bytes of all are, `tail_marks`, `kept_runs`, `kept_queue` and `kept_entries` what they are, `entry_queue` is both,
+//! and `outbox` is the outbox.
 #![tactic(auto)]
 
 mod byte_queue;
 mod entries;
 mod entry_queue;
 mod kept;
+mod kept_entries;
 mod kept_queue;
+mod kept_runs;
 mod outbox;
 mod run_tails;
+mod tail_marks;
 
 pub use entries::{Entry, Mode, Tag};
 pub use entry_queue::COPIED_BYTES;
