@@ -7,7 +7,7 @@ use std::alloc::{AllocError, Global};
 use std::marker::Model;
 
 /// How many places stay at most while there are no marks.
-const KEPT_PLACES: usize = 1_024;
+const KEPT_PLACES: usize = 8;
 
 /// Marks in order, from which the first and the last can go. They own nothing, so that many are put at once, and dropped at once.
 ///
