@@ -24,14 +24,14 @@ HOP = re.compile(r"^(\d)\. \*\*", re.M)
 WORD = re.compile(r"`(\w+)`")
 CALL = re.compile(r"`([A-Z]\w*)::(\w+)`")
 
-# What a file says of whose functions follow, and the head of a function.
+# What a file says of whose functions follow, a clause of a contract, and the head of a function.
 OWNER = re.compile(r"^(?:impl|(?:pub )?trait)\b(?P<head>[^{]*)")
 CLAUSE = re.compile(r"^ *(?:requires|ensures)\b")
 HEAD = re.compile(r"^(?P<indent> *)(?:pub(?:\([a-z]+\))? )?fn (?P<name>\w+)")
 
 # What a call that hands on is given: a name or a field, lent or not.
 GIVEN = re.compile(r"&?(?:mut )?[a-z_][\w.]*")
-HANDED = re.compile(r"(?:self|[\w:]+)[\w.:]*\((?P<given>[^()]*)\)\??")
+HANDED = re.compile(r"[\w.:]+\((?P<given>[^()]*)\)\??")
 
 
 class Function:
