@@ -3,7 +3,7 @@ use Rattle.std.proofs.Common.{◌≡◌, ℕ, zero, suc, ◌+◌, ◌-◌, ◌<�
 use Rattle.std.specs.Prelude.{filter, All}
 use Rattle.std.proofs.lemmas.List.{take_all, take_more}
 use Rattle.subj.specs.declared.identities.SubId.{SubId}
-use Rattle.outbox.specs.Kept.{copied_of, kept_of, kept_run, mark_in_run, is_whole}
+use Rattle.outbox.specs.Kept.{copied_of, kept_in_run, kept_run, is_whole}
 use Rattle.outbox.specs.declared.kept.Kept.{Kept}
 use Rattle.outbox.specs.declared.run_tails.TailMark.{TailMark}
 use Rattle.outbox.proofs.Runs.{one_of_run}
@@ -21,7 +21,7 @@ runs_fit sub head_len marks fits = λ i d lt.
 
 pub message_at : (sub : SubId) (head_len : ℕ) (marks : List TailMark) (i : ℕ) (k : Kept) (d : TailMark)
     → i < length marks
-    → get_or (kept_run sub head_len marks) i k ≡ kept_of (mark_in_run sub head_len (get_or marks i d))
+    → get_or (kept_run sub head_len marks) i k ≡ kept_in_run sub head_len (get_or marks i d)
 message_at sub head_len [] i k d lt = absurd (omega arith)
 message_at sub head_len (mark ∷ marks) zero k d lt = refl
 message_at sub head_len (mark ∷ marks) (suc i) k d lt = message_at sub head_len marks i k d (omega arith)
@@ -40,7 +40,7 @@ pub first_of_run : (sub : SubId) (head_len : ℕ) (marks : List TailMark) (n : �
 first_of_run sub head_len marks zero = refl
 first_of_run sub head_len [] (suc n) = refl
 first_of_run sub head_len (mark ∷ marks) (suc n) =
-    ap (λ (ks : List Kept). kept_of (mark_in_run sub head_len mark) ∷ ks) (first_of_run sub head_len marks n)
+    ap (λ (ks : List Kept). kept_in_run sub head_len mark ∷ ks) (first_of_run sub head_len marks n)
 
 pub last_and_rest : (ks : List Kept) (k : Kept) → 0 < length ks
     → ks ≡ take (length ks - 1) ks ++ get_or ks (length ks - 1) k ∷ []

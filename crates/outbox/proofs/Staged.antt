@@ -1,12 +1,13 @@
 -- What an outbox's fields keep, and how it is seen, where an entry is put behind.
 use Rattle.std.specs.Prelude.{Result, Ok, Err, OnErr, OnOk, is_err, Some, None}
-use Rattle.std.proofs.Common.{◌≡◌, ℕ, ◌+◌, ◌≤◌, Bool, true, false, not, ◌&&◌, nat_lt, nat_le, List, [], ◌∷◌, ◌++◌, length, take, refl, sym, ap, ◌∙◌, arith, length-append}
+use Rattle.std.proofs.Common.{◌≡◌, ℕ, ◌+◌, ◌-◌, ◌*◌, ◌/◌, ◌<◌, ◌≤◌, min, Bool, true, false, not, ◌&&◌, nat_lt, nat_le, List, [], ◌∷◌, ◌++◌, length, take, refl, sym, ap, ◌∙◌, arith, length-append}
+use Rattle.std.proofs.Math.Nat.{div-mul-le_self, mul-le-mul_right}
 use Rattle.std.proofs.lemmas.Bool.Decides.{nat_tests}
 use Rattle.std.proofs.lemmas.List.{take-append-le, take_all}
 use Rattle.std.proofs.lemmas.List.Sums.{sum_by-append}
 use Rattle.outbox.specs.Bytes.{bytes_of, line_end}
 use Rattle.outbox.specs.Sound.{IsSound, HasLastLine}
-use Rattle.outbox.specs.Views.{Written, Waiting, size_of}
+use Rattle.outbox.specs.Views.{Written, Waiting, HasRoomForEach, size_of}
 
 -- what there is room for: no last line, and so many bytes more
 pub room_left : (shut : Bool) (count most_count size len most : ℕ)
@@ -14,6 +15,31 @@ pub room_left : (shut : Bool) (count most_count size len most : ℕ)
     → (shut ≡ false) × (size + len ≤ most)
 room_left true count most_count size len most is = absurd (cc)
 room_left false count most_count size len most is = (refl, grind (arith, nat_tests))
+
+sizes_within : (size bytes most all whole : ℕ)
+    → bytes ≡ size → bytes ≤ most → all ≤ whole → whole ≤ most - bytes → size + all ≤ most
+sizes_within size bytes most all whole is fit few small = omega (arith, is, fit, few, small)
+
+pub least_of : (n a b : ℕ) → n ≡ min a b → (n ≤ a) × (n ≤ b)
+least_of n a b is = (omega (arith, is), omega (arith, is))
+
+-- and for several entries, of as many bytes at most
+pub room_for_each : (entries : List Written) (count len max_entries max_bytes bytes : ℕ) (closing : Bool)
+    → closing ≡ false
+    → bytes ≡ size_of entries
+    → bytes ≤ max_bytes
+    → 0 < count
+    → count ≤ max_entries - length entries
+    → count ≤ (max_bytes - bytes) / len
+    → HasRoomForEach count len max_entries max_bytes (record { entries = entries; shut = closing })
+room_for_each entries count len max_entries max_bytes bytes closing unshut counted fit some few small =
+    let whole = (max_bytes - bytes) / len in record {
+      not_shut = unshut;
+      few = omega (arith, few, some);
+      small =
+          sizes_within (size_of entries) bytes max_bytes (count * len) (whole * len) counted fit
+          (mul-le-mul_right len small) (div-mul-le_self (max_bytes - bytes) len);
+    }
 
 pub reply_size : (line : List ℕ) → length (bytes_of line None) ≡ length line + 2
 reply_size line =

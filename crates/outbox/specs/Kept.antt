@@ -6,9 +6,10 @@ use Rattle.outbox.specs.Views.{Written}
 use Rattle.outbox.specs.declared.kept.Kept.{Kept}
 use Rattle.outbox.specs.declared.kept.Kept.TheVariants.{Copied, Whole}
 use Rattle.outbox.specs.declared.kept.Mark.{Mark}
-use Rattle.outbox.specs.declared.kept.Mark.TheVariants.{Answer, Message}
+use Rattle.outbox.specs.declared.kept.Mark.TheVariants.{Answer, Message, Grouped}
 use Rattle.outbox.specs.declared.run_tails.TailMark.{TailMark}
 use Rattle.outbox.specs.declared.entries.Tag.TheVariants.{Reply, Msg}
+use Rattle.outbox.specs.declared.entries.Mode.{Mode}
 use Rattle.outbox.specs.declared.entries.Mode.TheVariants.{Plain}
 
 -- how many of the bytes are the entry's
@@ -34,18 +35,24 @@ abbrev pub copied_of : List Kept → ℕ
 copied_of [] = 0
 copied_of (kept ∷ others) = copied_len kept + copied_of others
 
--- how an entry is kept that has a mark
-abbrev pub kept_of : Mark → Kept
-kept_of (Answer len) = Copied Reply len
-kept_of (Message id sub len) = Copied (Msg id sub Plain) len
+-- how an entry is kept that has a mark, where the messages to members of a queue group came in this
+-- mode
+abbrev pub kept_of : Mode → Mark → Kept
+kept_of mode (Answer len) = Copied Reply len
+kept_of mode (Message id sub len) = Copied (Msg id sub Plain) len
+kept_of mode (Grouped id sub len) = Copied (Msg id sub mode) len
 
--- the mark of a message of a run, whose head has so many bytes
+-- how a message of a run is kept, whose head has so many bytes
+abbrev pub kept_in_run : SubId → ℕ → TailMark → Kept
+kept_in_run sub head_len tail = Copied (Msg tail.id sub Plain) (head_len + tail.len)
+
+-- its mark
 abbrev pub mark_in_run : SubId → ℕ → TailMark → Mark
 mark_in_run sub head_len tail = Message tail.id sub (head_len + tail.len)
 
 -- how a run is kept
 abbrev pub kept_run : SubId → ℕ → List TailMark → List Kept
-kept_run sub head_len tails = map (λ tail. kept_of (mark_in_run sub head_len tail)) tails
+kept_run sub head_len tails = map (λ tail. kept_in_run sub head_len tail) tails
 
 -- how the entry at a place is kept
 abbrev pub kept_at : List Kept → ℕ → Kept

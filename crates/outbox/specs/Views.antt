@@ -1,5 +1,5 @@
 -- An entry and an outbox as other crates see them.
-use Rattle.std.specs.Prelude.{ℕ, ◌+◌, ◌/◌, Bool, true, false, not, ◌&&◌, ◌||◌, nat_lt, nat_le, List, [], ◌∷◌, ◌++◌, length, drop, sum_by, flat_map}
+use Rattle.std.specs.Prelude.{◌≡◌, ◌≤◌, ℕ, ◌+◌, ◌*◌, ◌/◌, Bool, true, false, not, ◌&&◌, ◌||◌, nat_lt, nat_le, List, [], ◌∷◌, ◌++◌, length, drop, sum_by, flat_map}
 use Rattle.outbox.specs.declared.entries.Tag.{Tag}
 use Rattle.outbox.specs.declared.entries.Tag.TheVariants.{Reply, Msg}
 use Rattle.outbox.specs.declared.entries.Mode.{Mode}
@@ -86,6 +86,13 @@ has_room_for_all max_entries max_bytes entries backlog =
     not backlog.shut
     && (nat_le (length backlog.entries + length entries) max_entries
     && nat_le (size_of backlog.entries + size_of entries) max_bytes)
+
+-- each of so many, of at most so many bytes, may be put behind the others: not behind the last
+-- line, and within both limits (profile)
+pub record HasRoomForEach (count len max_entries max_bytes : ℕ) (backlog : Backlog) : Type 0 where
+  pub not_shut : backlog.shut ≡ false
+  pub few : length backlog.entries + count ≤ max_entries
+  pub small : size_of backlog.entries + count * len ≤ max_bytes
 
 -- what a message of a run has of its own: its publication, and its bytes behind the id of a
 -- subscription

@@ -2,7 +2,8 @@
 
 ghost use Rattle.std.specs.Prelude.{◌≡◌, ℕ, ◌+◌, ◌-◌, ◌≤◌, ◌<◌, ◌^◌, Some, ◌++◌, ◌∷◌, [], length, take, drop, IfOk, OnOk, OnErr};
 ghost use Rattle.outbox.specs.Bytes.{bytes_of};
-ghost use Rattle.outbox.specs.Views.{size_of, bytes_of_all, reply_entry, message_run};
+ghost use Rattle.outbox.specs.Views.{size_of, bytes_of_all, reply_entry, message_run, spelt_entry};
+ghost use Rattle.outbox.specs.declared.entries.Mode.TheVariants.{Queue};
 ghost use Rattle.outbox.specs.Kept.{copied_of, written_in};
 
 use crate::byte_queue::ByteQueue;
@@ -13,7 +14,7 @@ use bytes::Bytes;
 use line_fields::CR_LF;
 use std::alloc::{AllocError, Global};
 use std::marker::Model;
-use subj::SubId;
+use subj::{PubId, QueueName, SubId};
 
 /// The most bytes of an entry that is copied where it is put, each CR LF among them. Larger ones stay as they came, and share
 /// their payload.
@@ -249,6 +250,35 @@ impl EntryQueue {
         self.kept.reserve_two()?;
         let len = self.text.push_parts(head, tail)?;
         self.kept.push_copied(tag, len);
+        Ok(())
+    }
+
+    /// Puts a message to a member of the queue group of this name behind: what [`EntryQueue::push_parts`] does. The name is copied
+    /// only where it is another than that of the messages before it.
+    #[tactic(auto, using(crate::proofs::Seen::length_seen))]
+    pub(crate) fn push_queued(
+        &mut self,
+        alloc: Global,
+        id: PubId,
+        sub: SubId,
+        name: &QueueName,
+        head: &[u8],
+        tail: &[u8],
+    ) -> Result<(), AllocError>
+        requires { length head.now + length tail.now < 2 ^ 64 }
+        ensures ok { OnOk result (self.new.entries
+            ≡ self.old.entries
+            ++ spelt_entry id sub (Queue name.now) (head.now ++ tail.now) ∷ []) }
+        ensures place { OnOk result (length self.new.entries + 1 ≤ self.new.places) }
+        ensures err { OnErr result (self.new.entries ≡ self.old.entries) }
+        ensures kept { self.old.places ≤ self.new.places }
+    {
+        let before = self.text.as_slice().len();
+        let len = self.text.push_parts(head, tail)?;
+        if self.kept.push_queued(alloc, id, sub, name, len).is_err() {
+            self.text.truncate(before);
+            return Err(AllocError);
+        }
         Ok(())
     }
 

@@ -2,6 +2,8 @@
 
 ghost use Rattle.std.specs.Prelude.{◌≡◌, ℕ, List, ◌+◌, ◌≤◌, ◌<◌, ◌^◌, ◌++◌, ◌∷◌, [], false, filter, length, take, drop, IfOk, OnOk, OnErr};
 ghost use Rattle.outbox.specs.Views.{size_of};
+ghost use Rattle.outbox.specs.declared.entries.Mode.TheVariants.{Queue};
+ghost use Rattle.outbox.specs.declared.entries.Tag.TheVariants.{Msg};
 ghost use Rattle.outbox.specs.declared.kept.Kept.{Kept as KeptEntry};
 ghost use Rattle.outbox.specs.declared.kept.Kept.TheVariants.{Copied, Whole};
 ghost use Rattle.outbox.specs.Kept.{copied_len, copied_of, kept_at, kept_run, is_whole as is_kept_whole, written_at, written_in};
@@ -12,7 +14,7 @@ use crate::kept_runs::KeptRuns;
 use crate::run_tails::TailMark;
 use std::alloc::{AllocError, Global};
 use std::marker::Model;
-use subj::SubId;
+use subj::{PubId, QueueName, SubId};
 
 /// How entries are kept, in order: in front the messages of runs to one subscription, and behind them all others.
 ///
@@ -78,6 +80,26 @@ impl KeptEntries {
             → length self.new.items + 1 ≤ self.new.places }
     {
         self.behind.push_copied(tag, len);
+    }
+
+    /// Puts a message to a member of this queue group behind that was copied and has so many bytes, and takes the memory for the
+    /// place of one entry more. Want of memory leaves all as it was.
+    #[inline(always)]
+    pub(crate) fn push_queued(
+        &mut self,
+        alloc: Global,
+        id: PubId,
+        sub: SubId,
+        name: &QueueName,
+        len: usize,
+    ) -> Result<(), AllocError>
+        ensures ok { OnOk result
+            (self.new.items ≡ self.old.items ++ Copied (Msg id sub (Queue name.now)) len ∷ []) }
+        ensures place { OnOk result (length self.new.items + 1 ≤ self.new.places) }
+        ensures err { OnErr result (self.new.items ≡ self.old.items) }
+        ensures kept { self.old.places ≤ self.new.places }
+    {
+        self.behind.push_queued(alloc, id, sub, name, len)
     }
 
     /// Puts the entries of a run behind, whose head has so many bytes, and takes the memory for the place of one more. Want of memory

@@ -1,8 +1,10 @@
 //! How entries are kept, in order.
 
-ghost use Rattle.std.specs.Prelude.{◌≡◌, ℕ, ◌+◌, ◌≤◌, ◌<◌, ◌^◌, List, ◌++◌, ◌∷◌, [], false, map, filter, length, take, drop, IfOk, OnOk, OnErr};
+ghost use Rattle.std.specs.Prelude.{◌≡◌, ℕ, ◌+◌, ◌≤◌, ◌<◌, ◌^◌, List, ◌++◌, ◌∷◌, [], true, false, map, filter, length, take, drop, IfOk, OnOk, OnErr};
 ghost use Rattle.std.specs.VecDeque.{deque_capacity};
 ghost use Rattle.outbox.specs.Views.{size_of};
+ghost use Rattle.outbox.specs.declared.entries.Mode.TheVariants.{Queue};
+ghost use Rattle.outbox.specs.declared.entries.Tag.TheVariants.{Msg};
 ghost use Rattle.outbox.specs.declared.kept.Kept.{Kept as KeptEntry};
 ghost use Rattle.outbox.specs.declared.kept.Kept.TheVariants.{Copied, Whole};
 ghost use Rattle.outbox.specs.Kept.{copied_len, copied_of, kept_at, kept_of, kept_run, mark_in_run, is_whole as is_kept_whole, written_at, written_in};
@@ -13,7 +15,7 @@ use crate::run_tails::TailMark;
 use std::alloc::{AllocError, Global};
 use std::collections::VecDeque;
 use std::marker::Model;
-use subj::SubId;
+use subj::{PubId, QueueName, SubId};
 
 /// How many places stay at most while nothing waits.
 const KEPT_PLACES: usize = 8;
@@ -157,14 +159,52 @@ fn push_copies(kept: &mut VecDeque<Kept>, sub: SubId, head_len: usize, tails: &[
     }
 }
 
+/// Whether the mode is that of a member of the queue group of this name.
+#[inline(always)]
+fn is_queued_by(mode: &Mode, name: &QueueName) -> bool
+    ensures { result ≡ true → mode.now ≡ Queue name.now }
+{
+    match mode {
+        Mode::Plain => false,
+        Mode::Queue(queue) => queue.bytes() == name.bytes(),
+    }
+}
+
+/// Makes the mode that of a member of the queue group of this name, where it is another and free. Tells whether it is that now. Want of
+/// memory leaves it as it was.
+#[inline(always)]
+fn take_name(
+    mode: &mut Mode,
+    is_free: bool,
+    alloc: Global,
+    name: &QueueName,
+) -> Result<bool, AllocError>
+    ensures named { IfOk result (λ named. named ≡ true → mode.new ≡ Queue name.now) }
+    ensures left { IfOk result (λ named. named ≡ false → mode.new ≡ mode.old) }
+    ensures used { is_free ≡ false → mode.new ≡ mode.old }
+    ensures err { OnErr result (mode.new ≡ mode.old) }
+{
+    if is_queued_by(mode, name) {
+        return Ok(true);
+    }
+    if !is_free {
+        return Ok(false);
+    }
+    *mode = Mode::Queue(name.try_clone(alloc)?);
+    Ok(true)
+}
+
 /// How entries are kept, in order: the first ones by their marks, up to the first that owns anything. While all own nothing, all
-/// are dropped at once.
+/// are dropped at once. A message to a member of a queue group has a mark where its queue name stands beside the marks.
 ///
 /// Seen as the list of what is kept, how many there can be without more memory where the last one owns anything, for how many
 /// marks more there is room, and how many stand behind all that have marks.
 #[derive(Drop)]
 pub(crate) struct KeptQueue {
     marks: VecDeque<Mark>,
+    /// How the messages to members of a queue group came that have marks: all of them by members of one group. It changes only while
+    /// there are no marks.
+    mode: Mode,
     /// Those behind.
     others: VecDeque<Kept>,
 }
@@ -179,7 +219,7 @@ impl Model for KeptQueue {
     ghost use Rattle.outbox.specs.Kept.{kept_of};
 
     ghost view = { λ q. record {
-      items = map kept_of q.marks.items ++ q.others.items;
+      items = map (kept_of q.mode) q.marks.items ++ q.others.items;
       places = length q.marks.items + deque_capacity q.others;
       spare = deque_capacity q.marks - length q.marks.items;
       behind = length q.others.items;
@@ -195,6 +235,7 @@ impl KeptQueue {
     {
         Ok(KeptQueue {
             marks: VecDeque::new(alloc),
+            mode: Mode::Plain,
             others: VecDeque::with_capacity(alloc, 1)?,
         })
     }
@@ -260,6 +301,66 @@ impl KeptQueue {
             }
         }
         self.others.push_back_reserved(Kept::Copied { tag, len });
+    }
+
+    /// Puts a message to a member of this queue group behind that was copied and has so many bytes, for which there is a place, where
+    /// the name stands beside the marks, or can, as there are no marks. Tells whether it did. Want of memory leaves all as it was.
+    #[inline(always)]
+    fn push_mark(
+        &mut self,
+        alloc: Global,
+        id: PubId,
+        sub: SubId,
+        name: &QueueName,
+        len: usize,
+    ) -> Result<bool, AllocError>
+        requires place { length self.old.items + 2 ≤ self.old.places }
+        requires spare { 1 ≤ self.old.spare }
+        ensures put { IfOk result (λ put.
+            put ≡ true
+            → self.new.items
+            ≡ self.old.items ++ Copied (Msg id sub (Queue name.now)) len ∷ []) }
+        ensures left { IfOk result (λ put. put ≡ false → self.new.items ≡ self.old.items) }
+        ensures err { OnErr result (self.new.items ≡ self.old.items) }
+        ensures places { length self.new.items + 1 ≤ self.new.places }
+        ensures spare { IfOk result (λ put. put ≡ false → self.new.spare ≡ self.old.spare) }
+        ensures kept { self.old.places ≤ self.new.places }
+    {
+        if !self.others.is_empty() {
+            return Ok(false);
+        }
+        if !take_name(&mut self.mode, self.marks.is_empty(), alloc, name)? {
+            return Ok(false);
+        }
+        self.marks
+            .push_back_reserved(Mark::Grouped { id, sub, len });
+        Ok(true)
+    }
+
+    /// Puts a message to a member of this queue group behind that was copied and has so many bytes, and takes the memory for the
+    /// place of one entry more. The name is copied where it does not stand beside the marks. Want of memory leaves all as it was.
+    #[inline(always)]
+    pub(crate) fn push_queued(
+        &mut self,
+        alloc: Global,
+        id: PubId,
+        sub: SubId,
+        name: &QueueName,
+        len: usize,
+    ) -> Result<(), AllocError>
+        ensures ok { OnOk result
+            (self.new.items ≡ self.old.items ++ Copied (Msg id sub (Queue name.now)) len ∷ []) }
+        ensures place { OnOk result (length self.new.items + 1 ≤ self.new.places) }
+        ensures err { OnErr result (self.new.items ≡ self.old.items) }
+        ensures kept { self.old.places ≤ self.new.places }
+    {
+        self.reserve_two()?;
+        if self.push_mark(alloc, id, sub, name, len)? {
+            return Ok(());
+        }
+        let mode = Mode::Queue(name.try_clone(alloc)?);
+        self.push_copied(Tag::Msg { id, sub, mode }, len);
+        Ok(())
     }
 
     /// Takes the memory for the places of a run of so many entries that own nothing, and of one entry behind them.
@@ -403,7 +504,8 @@ impl KeptQueue {
     {
         if place < self.marks.len() {
             let mark = self.marks[place];
-            return copy_copied(alloc, mark.tag(), mark.len(), text);
+            let tag = mark.tag(&self.mode, alloc)?;
+            return copy_copied(alloc, tag, mark.len(), text);
         }
         copy_of(alloc, &self.others[place - self.marks.len()], text)
     }

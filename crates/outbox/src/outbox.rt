@@ -2,7 +2,8 @@
 
 ghost use Rattle.std.specs.Prelude.{◌≡◌, ◌+◌, ◌-◌, ◌≤◌, ◌<◌, ◌++◌, ◌==◌, vec_capacity, length, take, [], true, false, IfOk, OnOk, OnErr, IsTrue, Some, None, ◌^◌};
 ghost use Rattle.outbox.specs.Bytes.{bytes_of};
-ghost use Rattle.outbox.specs.Views.{Waiting, empty_outbox, bytes_of_all, size_of, has_room, is_half_full, reply_entry, message_entry, message_run, spelt_entry, has_room_for_all, with_entry, with_entries, with_last, without_first, on_both, on_shown, takes_last};
+ghost use Rattle.outbox.specs.Views.{Waiting, empty_outbox, bytes_of_all, size_of, has_room, is_half_full, reply_entry, message_entry, message_run, spelt_entry, has_room_for_all, HasRoomForEach, with_entry, with_entries, with_last, without_first, on_both, on_shown, takes_last};
+ghost use Rattle.outbox.specs.declared.entries.Mode.TheVariants.{Queue};
 
 use crate::entries::{Entry, Mode, Tag};
 use crate::entry_queue::EntryQueue;
@@ -12,7 +13,7 @@ use line_fields::CR_LF;
 use std::alloc::{AllocError, Global};
 use std::marker::Model;
 use std::mem;
-use subj::{LAST_LINE, PubId, SubId};
+use subj::{LAST_LINE, PubId, QueueName, SubId};
 
 /// The most bytes of a last line, without its CR LF.
 pub const LAST_LINE_TEXT: usize = LAST_LINE - CR_LF.len();
@@ -134,6 +135,21 @@ impl Outbox {
             && self.entries.len() < self.max_entries
             && len <= self.max_bytes
             && self.bytes <= self.max_bytes - len
+    }
+
+    /// How many of so many entries, each of at most so many bytes, may be put behind all that was put or staged.
+    pub fn room_for_most(&self, len: usize, most: usize) -> usize
+        requires { 0 < len }
+        ensures most { result ≤ most }
+        ensures room { 0 < result
+            → HasRoomForEach result len self.now.max_entries self.now.max_bytes self.now.next }
+    {
+        if self.closing {
+            return 0;
+        }
+        let few = most.min(self.max_entries.saturating_sub(self.entries.len()));
+        let small = (self.max_bytes - self.bytes) / len;
+        few.min(small)
     }
 
     /// Whether half of the room is used by all that was put or staged, for entries or for bytes, or a last line is among it.
@@ -297,6 +313,33 @@ impl Outbox {
         let len = head.len() + tail.len();
         let tag = Tag::Msg { id, sub, mode };
         self.entries.push_parts(tag, head, tail)?;
+        self.bytes += len;
+        Ok(())
+    }
+
+    /// Puts a message to a member of the queue group of this name behind all that was put or staged, unseen: what
+    /// [`Outbox::stage_parts`] does. The name is copied only where it is another than that of the messages before it. Want of memory
+    /// leaves all as it was.
+    pub fn stage_queued(
+        &mut self,
+        id: PubId,
+        sub: SubId,
+        name: &QueueName,
+        head: &[u8],
+        tail: &[u8],
+    ) -> Result<(), AllocError>
+        requires fits { length head.now + length tail.now < 2 ^ 64 }
+        requires room { IsTrue (has_room self.old.max_entries self.old.max_bytes
+            (length (head.now ++ tail.now)) self.old.next) }
+        ensures ok { OnOk result (self.new ≡ record self.old {
+          next = with_entry (spelt_entry id sub (Queue name.now) (head.now ++ tail.now))
+              self.old.next;
+        }) }
+        ensures err { OnErr result (self.new ≡ self.old) }
+    {
+        let len = head.len() + tail.len();
+        self.entries
+            .push_queued(self.alloc, id, sub, name, head, tail)?;
         self.bytes += len;
         Ok(())
     }

@@ -5,7 +5,7 @@ use Rattle.outbox.proofs.kept_queue.KeptQueue.pop_last.Goals as goal
 
 pub returns-in-Some-clause-rest : goal.returns-in-Some-clause-rest
 returns-in-Some-clause-rest c =
-    let marks = map kept_of c.self.inside.marks.items in
+    let marks = map (kept_of c.self.inside.mode) c.self.inside.marks.items in
     let items = sym (ap (λ (q : KeptItems). q.items) c.self.view_is) in (
       c.in-Some.last,
       items

@@ -1,6 +1,6 @@
 use Rattle.std.proofs.Common.{◌≡◌, ◌<◌, ◌+◌, List, length, get_or, subst, sym, ap, ◌∙◌}
 use Rattle.std.proofs.lemmas.List.{length-map}
-use Rattle.outbox.specs.Kept.{kept_at, kept_of, mark_in_run}
+use Rattle.outbox.specs.Kept.{kept_at, kept_in_run}
 use Rattle.outbox.specs.declared.kept.Kept.{Kept}
 use Rattle.outbox.specs.declared.kept.Kept.TheVariants.{Copied}
 use Rattle.outbox.specs.declared.entries.Tag.TheVariants.{Reply, Msg}
@@ -17,7 +17,7 @@ returns c =
     let mark = get_or own.marks i d in
     let count : length c.args.self.now ≡ length own.marks =
     ap (λ (ks : List Kept). length ks) (sym c.self.view_is)
-    ∙ length-map own.marks (λ (t : TailMark). kept_of (mark_in_run own.sub own.head_len t)) in
+    ∙ length-map own.marks (λ (t : TailMark). kept_in_run own.sub own.head_len t) in
     let lt : i < length own.marks = subst (λ n. i < n) count c.requires in (
       Msg mark.id own.sub Plain,
       sym (ap (λ (ks : List Kept). kept_at ks i) c.self.view_is)

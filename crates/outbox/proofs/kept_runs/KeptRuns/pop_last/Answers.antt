@@ -1,6 +1,6 @@
 use Rattle.std.proofs.Common.{◌≡◌, ◌-◌, ◌++◌, ◌∷◌, [], List, length, take, get_or, sym, ap, ◌∙◌}
 use Rattle.std.proofs.lemmas.List.{length-map}
-use Rattle.outbox.specs.Kept.{kept_of, kept_run, mark_in_run}
+use Rattle.outbox.specs.Kept.{kept_in_run, kept_run}
 use Rattle.outbox.specs.declared.kept.Kept.{Kept}
 use Rattle.outbox.specs.declared.kept.Kept.TheVariants.{Copied}
 use Rattle.outbox.specs.declared.entries.Tag.TheVariants.{Reply}
@@ -14,7 +14,7 @@ returns c =
     let ks = c.args.self.now in
     let count : length ks ≡ length own.marks =
     ap (λ (l : List Kept). length l) (sym c.self.view_is)
-    ∙ length-map own.marks (λ (t : TailMark). kept_of (mark_in_run own.sub own.head_len t)) in
+    ∙ length-map own.marks (λ (t : TailMark). kept_in_run own.sub own.head_len t) in
     let rest : take (length ks - 1) ks ≡ kept_run own.sub own.head_len c.drop_last.new.self =
     ap (take (length ks - 1)) (sym c.self.view_is)
     ∙ sym (first_of_run own.sub own.head_len own.marks (length ks - 1))
