@@ -141,6 +141,15 @@ module _ {S : Type 0} where
   IsFoundAt p x m n k =
       (n < p.finished + 1 → IsWonAt p x m k) × (p.finished + 1 ≤ n → IsLostAt p x m k)
 
+  -- a word that held n was loaded: the pair is lost where it was at the turn or above, and else
+  -- nothing is known more
+  abbrev pub IsMetAt : ShardPart → ℕ → Me S View → ℕ → Me S View → Type 0
+  IsMetAt p x m n k =
+      (n < p.finished + 1 → k ≡ m) × (p.finished + 1 ≤ n → IsLostAt p x m k)
+
+  abbrev pub IsSeenLostAt : ShardPart → ℕ → Me S View → Bool → Me S View → Type 0
+  IsSeenLostAt p x m lost k = (lost ≡ false → k ≡ m) × (lost ≡ true → IsLostAt p x m k)
+
   abbrev pub IsFinishedAt : ShardPart → Me S View → Me S View → Type 0
   IsFinishedAt p m k = k ≡ (with_part m.0 (finished_one p), m.1)
 
@@ -161,6 +170,13 @@ module _ {S : Type 0} where
       → At m.0.shards m.0.at p
       → st.word ≡ m.0.count + 1 + cell window names (p.finished + 1) x
       → IsFoundAt p x m n k
+
+  abbrev pub Loses : ℕ → ℕ → Step S → Me S View → ℕ → Me S View → Type 0
+  Loses window names st m n k =
+      (x : ℕ) (p : ShardPart)
+      → At m.0.shards m.0.at p
+      → st.word ≡ m.0.count + 1 + cell window names (p.finished + 1) x
+      → IsMetAt p x m n k
 
   abbrev pub Finishes : Step S → Me S View → ℕ → Me S View → Type 0
   Finishes st m n k = (p : ShardPart) → At m.0.shards m.0.at p → IsFinishedAt p m k

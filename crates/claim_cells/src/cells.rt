@@ -182,6 +182,26 @@ impl Cells {
         won
     }
 
+    /// Whether another shard has won the index in the seat's turn, as one load of the claim word of the pair shows.
+    ///
+    /// True puts the pair into the seat's lost list, as a claim would; false leaves the seat as it was. Required: as for a claim.
+    pub fn is_lost(&self, seat: &mut ShardSeat, index: u64) -> bool
+        requires race { seat.old.race ≡ self.now }
+        requires turn { HasTurn seat.old.part }
+        requires next { seat.old.part.next ≤ index }
+        requires most { index < MAX_QUEUE_NAMES }
+        ensures race { seat.new.race ≡ seat.old.race }
+        ensures lost { result ≡ true → seat.new.part ≡ lost_by seat.old.part index }
+        ensures left { result ≡ false → seat.new.part ≡ seat.old.part }
+    {
+        let turn = seat.finished.next().unwrap();
+        if !self.lose_at(&mut seat.place, turn, index) {
+            return false;
+        }
+        seat.next = index + 1;
+        true
+    }
+
     /// The shard has done with the seat's turn. Required: as for a claim.
     pub fn finish(&self, seat: &mut ShardSeat)
         requires race { seat.old.race ≡ self.now }

@@ -1,7 +1,7 @@
 //! The rule of the words, and what each kind of step on them tells.
 
 ghost use Rattle.claim_cells.specs.Rule.{Kept, whole_view, rest_of, first_of_view, joined_view, spent_view};
-ghost use Rattle.claim_cells.specs.Steps.{Looks, Issues, Sees, Claims, Finishes};
+ghost use Rattle.claim_cells.specs.Steps.{Looks, Issues, Sees, Claims, Loses, Finishes};
 ghost use Rattle.subj.specs.declared.limits.TheConstants.{MAX_COUNTER, MAX_QUEUE_NAMES, WINDOW};
 
 use crate::parts::View;
@@ -42,6 +42,13 @@ pub(crate) struct Claim;
 
 impl Play<(), View> for Claim {
     ghost then = { Claims WINDOW MAX_QUEUE_NAMES };
+}
+
+/// A shard loads a claim word, to see whether it is lost.
+pub(crate) struct Lose;
+
+impl Play<(), View> for Lose {
+    ghost then = { Loses WINDOW MAX_QUEUE_NAMES };
 }
 
 /// A shard stores its turn as finished.

@@ -4,12 +4,12 @@ ghost use Rattle.std.specs.Prelude.{◌≡◌, ℕ, ◌+◌, ◌<◌, ◌≤◌,
 ghost use Rattle.subj.specs.declared.limits.TheConstants.{MAX_COUNTER, MAX_QUEUE_NAMES, WINDOW};
 ghost use Rattle.claim_race.specs.Race.{busy_of};
 ghost use Rattle.claim_cells.specs.Rule.{Has};
-ghost use Rattle.claim_cells.specs.Steps.{HasHub, HasPart, hub_of, part_of, IsLookedAt, IsIssuedAt, IsSeenAt, IsClaimedAt, IsFinishedAt};
+ghost use Rattle.claim_cells.specs.Steps.{HasHub, HasPart, hub_of, part_of, IsLookedAt, IsIssuedAt, IsSeenAt, IsClaimedAt, IsSeenLostAt, IsFinishedAt};
 ghost use Rattle.claim_cells.specs.Seats.{Sighted};
 ghost use Rattle.claim_cells.specs.Calls.{IsIssueAt, IsRoundAt, finished_list};
 
 use crate::cells::Cells;
-use crate::plays::{Claim, Finish, Issue, Look, See};
+use crate::plays::{Claim, Finish, Issue, Look, Lose, See};
 use crate::seats::Place;
 use subj::{Busy, Finished, MAX_QUEUE_NAMES, Turn, WINDOW};
 
@@ -90,6 +90,27 @@ impl Cells {
             .shared
             .fetch_max::<Claim>(place, (self.shards + 1 + cell) as usize, turn);
         found < turn
+    }
+
+    /// The shard that acts loads the claim word of the index in its turn: whether the pair is lost, since the word is at the turn.
+    pub(crate) fn lose_at(&self, place: &mut Place, turn: Turn, index: u64) -> bool
+        requires table { place.old.table_id ≡ self.now.table }
+        requires shards { place.old.me.0.count ≡ self.now.shards }
+        requires part { HasPart place.old.me }
+        requires turn { turn ≡ (part_of place.old.me).finished + 1 }
+        requires seen { Sighted (part_of place.old.me) }
+        requires next { (part_of place.old.me).next ≤ index }
+        requires most { index < MAX_QUEUE_NAMES }
+        ensures table { place.new.table_id ≡ place.old.table_id }
+        ensures told { IsSeenLostAt (part_of place.old.me) index place.old.me result place.new.me }
+    {
+        let turn = turn.get();
+        let cell = turn % WINDOW * MAX_QUEUE_NAMES + index;
+        let found = self
+            .table
+            .shared
+            .load::<Lose>(place, (self.shards + 1 + cell) as usize);
+        found >= turn
     }
 
     /// The shard that acts stores its turn as finished.

@@ -6,12 +6,12 @@ use mathlib.Core.Logic.{dite}
 use mathlib.Core.Option.{none}
 use native.Mathlib.Decide.{dec_le, ℕ_discrete}
 use Rattle.atomic_table.specs.Table.{State, Me, step, keeps, Allows, Splits, Joins}
-use Rattle.atomic_table.proofs.Lists.{set_else, one_turn}
+use Rattle.atomic_table.proofs.Lists.{set_else, set_again, one_turn}
 use Rattle.claim_cells.specs.declared.parts.HubPart.{HubPart}
 use Rattle.claim_cells.specs.declared.parts.ShardPart.{ShardPart}
 use Rattle.claim_cells.specs.declared.parts.View.{View}
 use Rattle.claim_cells.specs.Rule.{At, Has, Law, Words, Seated, Kept, InTurn, IsCell, cell, row, rest_of, first_of_view, joined_view, spent_view}
-use Rattle.claim_cells.specs.Steps.{hub_after_load, issued_one, part_after_load, won_by, lost_by, finished_one, with_hub, with_part, Looks, Issues, Sees, Claims, IsFoundAt, Finishes}
+use Rattle.claim_cells.specs.Steps.{hub_after_load, issued_one, part_after_load, won_by, lost_by, finished_one, with_hub, with_part, Looks, Issues, Sees, Claims, Loses, IsFoundAt, IsMetAt, Finishes}
 use Rattle.claim_cells.specs.Seats.{Sighted}
 use Rattle.claim_cells.proofs.Rules.Lists.{un_some, same_at, at_there, has_snoc, has_more, has_last, snoc_at, cell_below, cell_same}
 use Rattle.claim_cells.proofs.Rules.LawKept.{law_look, law_issue, law_part}
@@ -482,6 +482,37 @@ module _ {S : Type 0} (limit window names count : ℕ) (wide : 0 < window) where
           )),
           (λ up. absurd (omega arith)),
         )
+
+      -- a shard loads a claim word: the pair is lost where it is at the turn or above
+      pub lose : Allows Rule slots id m word (λ n. n) (Loses window names (step slots word 0 0 none) m)
+      lose t k len at fits =
+          dite (dec_le (p.finished + 1) (slice_index t.words word))
+          (λ up. (
+            with_part m.0 (lost_by p x),
+            keeps,
+            tt,
+            subst (λ (l : List ℕ).
+                Rule record { words = l; homes = t.homes; views = set t.views id (with_part m.0 (lost_by p x)) })
+                (sym (set-get_or t.words word 0))
+                (loses t k at up),
+            (λ y q at' wd.
+                let one = same_claim y q at' wd in
+                subst₂ (λ (o : ShardPart) (z : ℕ).
+                IsMetAt o z m (slice_index t.words word) (with_part m.0 (lost_by p x), m.1))
+                one.0 one.1 ((λ low. absurd (omega arith)), (told_lost t k at up).1)),
+          ))
+          (λ no.
+          let low : slice_index t.words word < p.finished + 1 = omega arith in (
+            m.0,
+            keeps,
+            tt,
+            subst₂ (λ (l : List ℕ) (views : List View). Rule record { words = l; homes = t.homes; views = views })
+                (sym (set-get_or t.words word 0)) (sym (set_again t.views id m.0 at)) k,
+            (λ y q at' wd.
+                let one = same_claim y q at' wd in
+                subst₂ (λ (o : ShardPart) (z : ℕ). IsMetAt o z m (slice_index t.words word) (m.0, m.1))
+                one.0 one.1 ((λ _. refl), (λ up. absurd (omega arith)))),
+          ))
 
       pub claim : Allows Rule slots id m word (λ n. max n turn) Then
       claim t k len at fits =
