@@ -58,6 +58,7 @@ fn append_plain(message: &Message, out: &mut Vec<u8>) -> Result<(), AllocError>
 }
 
 /// Appends the second part of a message without a header block that has this reply and this payload.
+#[inline(always)]
 fn append_parts(reply: Option<&[u8]>, payload: &[u8], out: &mut Vec<u8>) -> Result<(), AllocError>
     requires reply { IfSome (option_copied reply) (λ reply. length reply ≤ MAX_SUBJECT) }
     requires payload { length payload.now ≤ MAX_PAYLOAD }
@@ -183,6 +184,7 @@ impl MessageTails {
 
     /// Those of a message without a header block that has this reply and this payload, in place of what was there. Required: the
     /// reply is as long as a subject may be, and the payload is within its limit.
+    #[inline(always)]
     pub fn write_parts(&mut self, reply: Option<&[u8]>, payload: &[u8]) -> Result<(), AllocError>
         requires reply { IfSome (option_copied reply) (λ reply. length reply ≤ MAX_SUBJECT) }
         requires payload { length payload.now ≤ MAX_PAYLOAD }

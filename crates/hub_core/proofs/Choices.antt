@@ -4,5 +4,5 @@ pub mod Names
 pub mod Choosing
 pub mod Wanted
 pub mod Alone
-pub mod Plain
+pub mod Local
 pub mod InMind

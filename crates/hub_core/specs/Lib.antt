@@ -32,7 +32,7 @@ pub mod Chosen
 -- what is kept in mind of a server's own interest
 pub mod InMind
 -- a publication that owes the server's own shards a job and nothing else
-pub mod Plain
+pub mod Local
 -- who serves the queue names of a publication, as it is found in code
 pub mod Serving
 -- whether a hub has nothing left to hear, and can go on

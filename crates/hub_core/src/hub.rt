@@ -10,7 +10,7 @@ ghost use Rattle.hub_core.specs.Events.{Receive, Up, Cut, TakeFrom, IsUp, WasCut
 ghost use Rattle.hub_core.specs.Steps.{IsMeeting};
 ghost use Rattle.hub_core.specs.Hubs.{hub_at_start, refusal, DoesStep};
 ghost use Rattle.hub_core.specs.declared.faults.HubFault.TheVariants.{Spent, TooManyQueues};
-ghost use Rattle.hub_core.specs.Plain.{HasTurnsFor};
+ghost use Rattle.hub_core.specs.Local.{HasTurnsFor};
 ghost use Rattle.hub_core.specs.Publishing.{busy_fault, next_id as id_of_next, publish_refusal, frames_of};
 ghost use Rattle.hub_core.specs.Receiving.{receive_refusal, origin_fault as refused_of_origin, after_receive, has_message};
 ghost use Rattle.hub_core.specs.Calls.{job_of, IsTaken, answer_of, IsPlanned, after_frames};
@@ -348,10 +348,10 @@ impl Hub {
         put_all(&self.server, &mut self.peers, frames);
     }
 
-    /// The same of a plain publication, which owes a job to the server's own shards and nothing else. Required: it is not refused. Nothing
+    /// The same of a local publication, which owes a job to the server's own shards and nothing else. Required: it is not refused. Nothing
     /// is learnt of who wants it, and no memory is taken.
     #[inline(always)]
-    pub fn commit_plain(&mut self)
+    pub fn commit_local(&mut self)
         requires { IsPlanned self.old.server self.old.state [] }
         ensures { self.new
             ≡ record self.old { state = after_frames self.old.server self.old.state [] } }
@@ -509,7 +509,7 @@ impl Hub {
         self.issued
     }
 
-    /// How many plain publications can be issued one after the other, by these loads: no shard is a window behind then, and neither the
+    /// How many local publications can be issued one after the other, by these loads: no shard is a window behind then, and neither the
     /// numbers of publications nor the turns are used up.
     pub fn turns_free(&self, finished: &Finished) -> u64
         ensures { HasTurnsFor self.now.server self.now.state finished.now result }

@@ -1,7 +1,7 @@
 //! What each event of a hub is in the cluster law. The calls do nothing: their contracts are the laws.
 
 ghost use Rattle.hub_core.specs.AsLaw.{PublishesInLaw, ReceivesInLaw, MeetsInLaw, AnnouncesInLaw, DrainsInLaw, CutsUnseen, TakesUnseen};
-ghost use Rattle.hub_core.specs.Plain.{PlainJobsFollow};
+ghost use Rattle.hub_core.specs.Local.{LocalJobsFollow};
 ghost use Rattle.hub_core.specs.Steps.{StaysSound};
 ghost use Rattle.hub_core.specs.Wanted.{NamesAreWanted};
 
@@ -51,8 +51,9 @@ pub fn queue_names_are_wanted()
     ensures { NamesAreWanted }
 {}
 
-/// Where no queue name wants a subject and no eligible peer has a plain key that matches it, a publication on it is refused just
-/// where no turn is issued, and owes a job without queue names and no frame; and so does the next one behind it.
-pub fn plain_jobs_follow()
-    ensures { PlainJobsFollow }
+/// Where a server serves all queue names itself that want a subject, and no eligible peer has a plain key that matches it, a publication on
+/// it is refused just where no turn is issued, and owes a job with these names and no frame, whatever its word; and so does the next one
+/// behind it.
+pub fn local_jobs_follow()
+    ensures { LocalJobsFollow }
 {}

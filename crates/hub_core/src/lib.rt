@@ -9,7 +9,7 @@
 //! ```
 //!
 //! In reading order: `hub` has the state, and says why a call is refused (`faults`); `publishing` is what a publish owes, with the choice of who
-//! serves each queue name, and `plain` says whether that is a job and nothing else; `collecting` counts what shards tell, by `collects`, which is
+//! serves each queue name, and `local` says whether that is a job and nothing else; `collecting` counts what shards tell, by `collects`, which is
 //! what peers are told of it, and `drains` how a server tells that it has none any more. `peers` keeps what is known of each: what a frame of a peer
 //! does, the snapshot for one that comes up, and the frames that wait. `own_interest` is the server's own, with the queue names in mind that want a
 //! hot subject. `answers` is what the calls give. `laws` and `examples` are what holds of all this.
@@ -23,9 +23,9 @@ mod examples;
 mod faults;
 mod hub;
 mod laws;
+mod local;
 mod own_interest;
 mod peers;
-mod plain;
 mod publishing;
 mod settled;
 
@@ -39,7 +39,7 @@ pub use examples::{
 pub use faults::HubFault;
 pub use hub::Hub;
 pub use laws::{
-    collects_follow_the_law, drains_follow_the_law, plain_jobs_follow, publishes_follow_the_law,
+    collects_follow_the_law, drains_follow_the_law, local_jobs_follow, publishes_follow_the_law,
     queue_names_are_wanted, receives_follow_the_law, sessions_follow_the_law,
     sound_hubs_stay_sound, the_rest_is_unseen,
 };

@@ -1,8 +1,7 @@
 -- The jobs of a block, each at its place.
 use Rattle.std.proofs.Common.{◌≡◌, ℕ, zero, suc, ◌+◌, ◌-◌, ◌*◌, ◌<◌, ◌≤◌, List, [], ◌∷◌, ◌++◌, length, get_or, Some, refl, sym, ap, subst, ◌∙◌, arith, length-append}
 use Rattle.std.specs.Prelude.{Bool, ◌==◌, not, Option, None, true, IfSome, is_some, slice_get}
-use Rattle.std.proofs.lemmas.Bool.{eqb-true, not-true, true≢false}
-use Rattle.std.proofs.lemmas.List.{nil_from_length}
+use Rattle.std.proofs.lemmas.Bool.{not-true, true≢false}
 use Rattle.std.proofs.Math.Nat.{mul-le-mul_right}
 use Rattle.std.proofs.lemmas.Option.{same_Some, none-some, get_or_from_slice_get, slice_get_read, slice_get_within}
 use Rattle.subj.specs.Messages.{Content, body_of}
@@ -112,14 +111,14 @@ kept_at text kept k job are is =
 
 -- the part of the text where the last job's subject stands, where that is of this subject
 pub last_part : (text : List ℕ) (turn : ℕ) (kept : List KeptJob) (jobs : List Job) (span : Option Span)
-    (publisher : Option ℕ) (subject : List ℕ) (echo : Bool)
+    (publisher : Option ℕ) (subject : List ℕ) (echo : Bool) (queues : List (List ℕ))
     → jobs_in text turn kept ≡ jobs
     → AreKept text kept
     → IfSome span (λ s. (t : List ℕ) → AreKept t kept → IsOfLast t kept s)
-    → (0 < length jobs → IsLast publisher subject echo jobs)
+    → (0 < length jobs → IsLast publisher subject echo queues jobs)
     → IfSome span (λ s. IsPart text s subject)
-last_part text turn kept jobs None publisher subject echo seen are of is = tt
-last_part text turn kept jobs (Some span) publisher subject echo seen are of is =
+last_part text turn kept jobs None publisher subject echo queues seen are of is = tt
+last_part text turn kept jobs (Some span) publisher subject echo queues seen are of is =
     let there = of text are in
     let within = slice_get_within kept (length kept - 1) there.last there.stands in
     let count : length jobs ≡ length kept = sym (ap (λ (l : List Job). length l) seen) ∙ jobs_length text turn kept in
@@ -287,32 +286,31 @@ some_there [] count is_empty some is same =
 some_there (job ∷ kept) count is_empty some is same = omega arith
 
 -- the same of one that is like the last, where there is one
-pub put_next : (old new : List ℕ) (turn : ℕ) (kept reserved more : List KeptJob) (origin : Origin) (goes_on : Bool)
-    (message : KeptMessage) (block : Block) (content : Content)
+pub put_next : (old new : List ℕ) (turn : ℕ) (kept reserved more : List KeptJob) (origin : Origin)
+    (queues : List (List ℕ)) (goes_on : Bool) (message : KeptMessage) (block : Block) (content : Content)
     → IsSeen old turn kept block
     → reserved ≡ kept
-    → more ≡ reserved ++ kept_of origin [] goes_on message ∷ []
+    → more ≡ reserved ++ kept_of origin queues goes_on message ∷ []
     → Extends old new
     → IsKeptAs new message content
     → (goes_on ≡ true → 0 < length reserved)
-    → (0 < length block.jobs → IsLast origin.publisher content.subject origin.echo block.jobs)
+    → (0 < length block.jobs → IsLast origin.publisher content.subject origin.echo queues block.jobs)
     → IsShort content
-    → IsMore old new kept more (kept_of origin [] goes_on message) block content
-put_next old new turn kept reserved more origin goes_on message block content seen same put grows is some last short =
-    let count : length block.jobs ≡ length reserved =
-    sym (ap (λ (l : List Job). length l) seen.jobs)
-    ∙ jobs_length old turn kept
-    ∙ sym (ap (λ (l : List KeptJob). length l) same) in
-    let in_order : AreNumberedFrom block.first_turn block.jobs =
-    subst (λ (n : ℕ). AreNumberedFrom n block.jobs) seen.first
-    (subst (AreNumberedFrom turn) seen.jobs (numbered old turn kept)) in
+    → IsMore old new kept more (kept_of origin queues goes_on message) block content
+put_next old new turn kept reserved more origin queues goes_on message block content seen same put grows is some last
+    short =
+    let count : length block.jobs ≡ length reserved = sym (ap (λ (l : List Job). length l) seen.jobs)
+    ∙ jobs_length old turn kept ∙ sym (ap (λ (l : List KeptJob). length l) same) in
+    let in_order : AreNumberedFrom block.first_turn block.jobs = subst (λ (n : ℕ). AreNumberedFrom n block.jobs)
+    seen.first (subst (AreNumberedFrom turn) seen.jobs (numbered old turn kept)) in
     record {
       grows = grows;
-      put = put ∙ ap (λ (l : List KeptJob). l ++ kept_of origin [] goes_on message ∷ []) same;
+      put = put ∙ ap (λ (l : List KeptJob). l ++ kept_of origin queues goes_on message ∷ []) same;
       message = is;
       goes = λ g.
           let low = some g in
-          goes_on_last block.first_turn block.jobs origin content in_order (last (omega (arith, count, low))) short;
+          goes_on_last block.first_turn block.jobs origin content queues in_order (last (omega (arith, count, low)))
+          short;
     }
 
 pub pushed_jobs : (old new : List ℕ) (turn : ℕ) (kept more : List KeptJob) (last : KeptJob) (block : Block)
@@ -404,9 +402,3 @@ pub memory_within : (text places most count size : ℕ) → text ≤ most → pl
     → text + places * size ≤ most + count * size
 memory_within text places most count size small few =
     let e = mul-le-mul_right {m = places} {n = count} size few in omega (arith, small, e)
-
--- what is seen of no names
-pub none_there : (names seen : List (List ℕ)) (is_empty : Bool) → seen ≡ names → is_empty ≡ (length seen == 0)
-    → is_empty ≡ true → names ≡ []
-none_there names seen is_empty same is none =
-    sym same ∙ nil_from_length seen (eqb-true (length seen) 0 (sym is ∙ none))

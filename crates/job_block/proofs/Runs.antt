@@ -45,17 +45,17 @@ goes_on_put jobs before job last alike =
     }
 
 -- behind a last job that is like it
-pub goes_on_last : (turn : ℕ) (jobs : List Job) (origin : Origin) (content : Content)
+pub goes_on_last : (turn : ℕ) (jobs : List Job) (origin : Origin) (content : Content) (queues : List (List ℕ))
     → AreNumberedFrom turn jobs
-    → IsLast origin.publisher content.subject origin.echo jobs
+    → IsLast origin.publisher content.subject origin.echo queues jobs
     → IsShort content
-    → GoesOnAt (jobs ++ job_of origin (turn + length jobs) content [] ∷ []) (length jobs)
-goes_on_last turn jobs origin content numbered last short =
+    → GoesOnAt (jobs ++ job_of origin (turn + length jobs) content queues ∷ []) (length jobs)
+goes_on_last turn jobs origin content queues numbered last short =
     let within = slice_get_within jobs (length jobs - 1) last.last last.stands in
     let behind = numbered (length jobs - 1) last.last last.stands in
-    goes_on_put jobs last.last (job_of origin (turn + length jobs) content []) last.stands (record {
+    goes_on_put jobs last.last (job_of origin (turn + length jobs) content queues) last.stands (record {
       turn = omega (arith, within, behind);
-      unnamed = refl;
+      queues = sym last.queues_same;
       plain = short.plain;
       short = short.short;
       subject = sym last.subject_same;

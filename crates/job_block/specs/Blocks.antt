@@ -42,11 +42,11 @@ pub record IsLeft (old new : Block) : Type 0 where
   pub first_turn : new.first_turn ≡ old.first_turn
   pub jobs : new.jobs ≡ old.jobs
 
--- A run goes on with the job: it has the next turn, claims no queue name, has no header block and a
--- short payload, and the subject, the publisher and the echo of the one before it.
+-- A run goes on with the job: it has the next turn, no header block and a short payload, and the
+-- subject, the publisher, the echo and the queue names of the one before it.
 pub record FollowsAlike (before job : Job) : Type 0 where
   pub turn : job.turn ≡ before.turn + 1
-  pub unnamed : job.queues ≡ []
+  pub queues : job.queues ≡ before.queues
   pub plain : job.message.headers ≡ None
   pub short : length job.message.payload ≤ SHORT_BYTES
   pub subject : job.message.subject ≡ before.message.subject
@@ -70,14 +70,15 @@ AreAlike jobs =
     → slice_get jobs (k + 1) ≡ Some job
     → FollowsAlike before job
 
--- the last job is there, and is of this publisher, subject and echo
-pub record IsLast (publisher : Option ℕ) (subject : List ℕ) (echo : Bool) (jobs : List Job) :
-    Type 0 where
+-- the last job is there, and is of this publisher, subject and echo, with these queue names
+pub record IsLast (publisher : Option ℕ) (subject : List ℕ) (echo : Bool)
+    (queues : List (List ℕ)) (jobs : List Job) : Type 0 where
   pub last : Job
   pub stands : slice_get jobs (length jobs - 1) ≡ Some last
   pub subject_same : last.message.subject ≡ subject
   pub publisher_same : last.publisher ≡ publisher
   pub echo_same : last.echo ≡ echo
+  pub queues_same : last.queues ≡ queues
 
 -- so much is kept for other jobs, and nothing where it is more (profile)
 abbrev pub kept_memory : ℕ → ℕ

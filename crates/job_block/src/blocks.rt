@@ -245,29 +245,32 @@ impl JobBlock {
         Ok(())
     }
 
-    /// The same of a publication of the subject, the publisher and the echo of the last job, where there is one: a run goes on with it.
-    /// Required, besides: all that is so, it has no header block, and at most [`SHORT_BYTES`](crate::SHORT_BYTES) of payload.
+    /// The same of a publication of the subject, the publisher, the echo and the queue names of the last job, where there is one: a run
+    /// goes on with it. Required, besides: all that is so, it has no header block, and at most [`SHORT_BYTES`](crate::SHORT_BYTES) of
+    /// payload.
     pub fn push_next(
         &mut self,
         publication: &PublicationParts<'_>,
         origin: Origin,
+        queues: QueueNames,
     ) -> Result<(), AllocError>
         requires last { 0 < length self.old.jobs
-            → IsLast origin.publisher (content_by publication.now).subject origin.echo
+            → IsLast origin.publisher (content_by publication.now).subject origin.echo queues
             self.old.jobs }
         requires short { IsShort (content_by publication.now) }
         requires valid { IsPublishable (content_by publication.now) }
         requires turn { turn_behind self.old ≤ MAX_COUNTER }
         ensures ok { OnOk result
-            (IsPushed (job_of origin (turn_behind self.old) (content_by publication.now) [])
-            self.old self.new) }
+            (IsPushed
+            (job_of origin (turn_behind self.old) (content_by publication.now) queues) self.old
+            self.new) }
         ensures err { OnErr result (IsLeft self.old self.new) }
     {
         self.kept.reserve(1)?;
         let goes_on = !self.kept.is_empty();
         let subject = last_span(self.kept.as_slice());
         let message = keep(&mut self.text, subject, publication)?;
-        put_job(&mut self.kept, origin, QueueNames::new(), goes_on, message);
+        put_job(&mut self.kept, origin, queues, goes_on, message);
         Ok(())
     }
 

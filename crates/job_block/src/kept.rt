@@ -10,7 +10,7 @@ ghost use Rattle.job_block.specs.Blocks.{FollowsAlike, job_of};
 use crate::publications::PublicationParts;
 use crate::spans::{Span, Spans, put};
 use std::alloc::{AllocError, Global};
-use subj::{ConnId, Message, PubId, QueueNames};
+use subj::{ConnId, Message, PubId, QueueName, QueueNames};
 
 /// From how many bytes on header block and payload of a publication are not copied into the text of a block: they stand apart, and all
 /// who keep the message share them. (Profile.)
@@ -86,6 +86,21 @@ pub(crate) struct KeptJob {
     pub(crate) message: KeptMessage,
 }
 
+/// Whether they are the same names, in the same order.
+fn are_same(names: &[QueueName], others: &[QueueName]) -> bool
+    ensures { result ≡ true → names.now ≡ others.now }
+{
+    if names.len() != others.len() {
+        return false;
+    }
+    for place in 0..names.len() {
+        if names[place].bytes() != others[place].bytes() {
+            return false;
+        }
+    }
+    true
+}
+
 impl KeptJob {
     /// Whether one that comes from there is of the same publisher, with the same echo.
     fn is_from(&self, origin: &Origin) -> bool
@@ -109,13 +124,13 @@ impl KeptJob {
             → FollowsAlike (job_in text.now turn self.now)
             (job_of origin.now (turn + 1) (content_by publication.now) queues.now) }
     {
-        if !queues.as_slice().is_empty() {
-            return false;
-        }
         if !publication.is_short() {
             return false;
         }
         if !self.is_from(origin) {
+            return false;
+        }
+        if !are_same(self.queues.as_slice(), queues.as_slice()) {
             return false;
         }
         self.message.subject(text) == publication.subject

@@ -78,8 +78,8 @@ impl<'a> JobSlice<'a> {
         }
     }
 
-    /// How many jobs from the first on are a run: each but the first claims no queue name, has no header block and a payload of at most
-    /// [`SHORT_BYTES`](crate::SHORT_BYTES), and has the subject, the publisher and the echo of the one before it.
+    /// How many jobs from the first on are a run: each but the first has no header block and a payload of at most
+    /// [`SHORT_BYTES`](crate::SHORT_BYTES), and has the subject, the publisher, the echo and the queue names of the one before it.
     pub fn run_len(&self) -> usize
         ensures most { result ≤ length self.now }
         ensures some { 0 < length self.now → 0 < result }

@@ -380,13 +380,13 @@ impl HubWithSessions {
         self.hub.commit_publish(frames);
     }
 
-    /// [`Hub::commit_plain`]: a publication that owes no frame.
+    /// [`Hub::commit_local`]: a publication that owes no frame.
     #[inline(always)]
-    pub fn commit_plain(&mut self)
+    pub fn commit_local(&mut self)
         requires { IsPlanned self.old.server self.old.hub [] }
         ensures { self.new
             ≡ record self.old { hub = after_frames self.old.server self.old.hub [] } }
     {
-        self.hub.commit_plain();
+        self.hub.commit_local();
     }
 }

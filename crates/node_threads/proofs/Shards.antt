@@ -2,6 +2,8 @@
 pub mod Joining
 pub mod Clients
 pub mod Working
+pub mod RunSteps
+pub mod ClaimSteps
 pub mod Runs
 pub mod Claims
 pub mod Placing

@@ -1,18 +1,19 @@
 -- What a turn of a shard does.
-use Rattle.std.specs.Prelude.{◌≡◌, ℕ, ◌+◌, ◌<◌, ◌≤◌, Bool, true, false, List, [], ◌∷◌, ◌++◌, length, take, Option, None, Some, is_some, Result, Ok, Err}
-use Rattle.std.specs.List.{flat_map}
+use Rattle.std.specs.Prelude.{◌≡◌, ℕ, ◌+◌, ◌<◌, ◌≤◌, Bool, true, false, List, [], ◌∷◌, ◌++◌, length, map, take, Option, None, Some, is_some, Result, Ok, Err}
 use Rattle.list_laws.specs.Lists.{Each}
 use Rattle.subj.specs.declared.jobs.Job.{Job}
 use Rattle.subj.specs.declared.failures.Failure.{Failure}
 use Rattle.subj.specs.declared.failures.Failure.TheVariants.{Refused, OutOfMemory}
-use Rattle.claim_cells.specs.Seats.{HasTurn}
+use Rattle.claim_cells.specs.declared.parts.ShardPart.{ShardPart}
+use Rattle.claim_cells.specs.Seats.{HasTurn, RaceId, ShardShown, last_load}
+use Rattle.shard_core.specs.ClaimRuns.{ClaimPart}
 use Rattle.shard_core.specs.ShardEvents.{Event, Attach, Subscribe, Unsubscribe, Reply, SetHeaders, Shut, Detach, Take, Begin, Claim, End, DropJob, Drain, Collect}
 use Rattle.shard_core.specs.declared.faults.ShardFault.{ShardFault}
 use Rattle.shard_core.specs.declared.faults.ShardFault.TheVariants.{NoJob}
 use Rattle.shard_core.specs.Runs.{CanRun, delivered_run}
 use Rattle.shard_core.specs.Shards.{State}
 use Rattle.node_threads.specs.AtWork.{AtWork, Makes}
-use Rattle.node_threads.specs.Steps.{Done}
+use Rattle.node_threads.specs.Steps.{Done, Leads, claims_of, jobs_of}
 use Rattle.node_threads.specs.declared.turned.Turned.{Turned}
 use Rattle.node_threads.specs.declared.turned.Turned.TheVariants.{Idle, Worked, WorkedRun, Short}
 
@@ -51,16 +52,27 @@ abbrev pub events_of : List Done → List Event
 events_of [] = []
 events_of (d ∷ earlier) = events_of earlier ++ d.event ∷ []
 
--- each of these jobs is begun, and ends
-abbrev pub begun_and_ended : List Job → List Event
-begun_and_ended jobs = flat_map (λ job. Begin job ∷ End ∷ []) jobs
+-- the queue names from this index on are claimed in order, each won or not
+abbrev pub claims_from : ℕ → List Bool → List Event
+claims_from index [] = []
+claims_from index (won ∷ wins) = Claim index won ∷ claims_from (index + 1) wins
 
--- so many jobs, at least one, are each begun and ended in turn; and that is all that is done
+-- each of these jobs is begun, its queue names are claimed, each won or not, and it ends
+abbrev pub worked_through : List Job → List (List Bool) → List Event
+worked_through [] wins = []
+worked_through (job ∷ jobs) [] = []
+worked_through (job ∷ jobs) (won ∷ wins) =
+    Begin job ∷ (claims_from 0 won ++ End ∷ worked_through jobs wins)
+
+-- so many jobs, at least one, are each worked from Begin to End in turn, with a claim of each queue
+-- name; and that is all that is done
 pub record HasWorkedRun (old : AtWork) (count last : ℕ) (new : AtWork) : Type 0 where
   pub jobs : List Job
+  pub wins : List (List Bool)
   pub steps : List Done
   pub makes : Makes old steps new
-  pub events : events_of steps ≡ begun_and_ended jobs
+  pub events : events_of steps ≡ worked_through jobs wins
+  pub names : map length wins ≡ map (λ job. length job.queues) jobs
   pub count_is : count ≡ length jobs
   pub some : 0 < count
   pub last_is : last ≡ old.state.finished + count
@@ -97,6 +109,25 @@ Drops old (Err OutOfMemory) new = Makes old [] new
 
 -- ---- its parts
 
+-- what the seat of a shard knows, as a run of claims sees it
+abbrev pub claim_part : ShardPart → ClaimPart
+claim_part p = record {
+  finished = p.finished;
+  seen = last_load p.loads;
+  next = p.next;
+  won = p.won;
+  lost = p.lost;
+}
+
+-- what it leaves of a seat: of which race and shard it is, and what it has seen
+pub record SeatKept : Type 0 where
+  pub race : RaceId
+  pub shard : ℕ
+  pub loads : List ℕ
+
+abbrev pub seat_kept : ShardShown → SeatKept
+seat_kept seat = record { race = seat.race; shard = seat.part.shard; loads = seat.part.loads }
+
 -- a job is in hand, or one that was popped has a turn that the shard has seen issued
 abbrev pub MayBegin : AtWork → Type 0
 MayBegin w = w.state.hand ≡ None → (is_some w.waiting ≡ true) × HasTurn w.part
@@ -108,6 +139,36 @@ pub record DeliversFirst (jobs : List Job) (count : ℕ) (old new : State) : Typ
   pub none : count ≡ 0 → new ≡ old
   pub can : 0 < count → CanRun old (take count jobs)
   pub after : 0 < count → new ≡ delivered_run old (take count jobs)
+
+-- These jobs were each worked from Begin to End in turn, and that is all that was done. The shard
+-- is at rest behind them. Its seat has finished their turns, and has won and lost just what was
+-- claimed.
+pub record WorksThrough
+    (jobs : List Job) (old : State) (before : ShardPart) (new : State) (after : ShardPart) :
+    Type 0 where
+  pub wins : List (List Bool)
+  pub steps : List Done
+  pub led : Leads old steps new
+  pub events : events_of steps ≡ worked_through jobs wins
+  pub names : map length wins ≡ map (λ job. length job.queues) jobs
+  pub begun : jobs_of steps ≡ jobs
+  pub hand : new.hand ≡ None
+  pub next_index : new.next_index ≡ 0
+  pub finished : new.finished ≡ old.finished + length jobs
+  pub shard : after.shard ≡ before.shard
+  pub turns : after.finished ≡ before.finished + length jobs
+  pub next : after.next ≡ 0
+  pub won : after.won ≡ before.won ++ claims_of true steps
+  pub lost : after.lost ≡ before.lost ++ claims_of false steps
+
+-- so many of these jobs, from the first on, were so worked; where none was, all is as it was
+pub record WorksFirst
+    (jobs : List Job) (count : ℕ) (old : State) (before : ShardPart) (new : State)
+    (after : ShardPart) : Type 0 where
+  pub few : count ≤ length jobs
+  pub none : count ≡ 0 → new ≡ old
+  pub left : count ≡ 0 → after ≡ before
+  pub through : 0 < count → WorksThrough (take count jobs) old before new after
 
 -- the index is the next one of the job in hand
 pub record MayClaim (index : ℕ) (s : State) : Type 0 where

@@ -1,15 +1,13 @@
 //! What stands under the lock of the hub: its ends of the lanes, the jobs on their way to these, and its state.
 
-ghost use Rattle.std.specs.Prelude.{◌≡◌, ◌-◌, ◌++◌, true, false, Some, [], slice_get, ◌+◌, ◌<◌, ◌∷◌, All, length, map, OnOk, OnErr, None, ⊤, IfOk, if◌then◌else◌};
+ghost use Rattle.std.specs.Prelude.{◌≡◌, ◌-◌, ◌++◌, true, false, Some, [], slice_get, ◌+◌, ◌<◌, ◌∷◌, All, length, map, OnOk, OnErr, None, ⊤, IfOk, IfSome};
 ghost use Rattle.job_block.specs.Blocks.{IsLast, job_of as job_by, turn_behind};
 ghost use Rattle.job_lane.specs.Turns.{AreNumbered};
-ghost use Rattle.node_threads.specs.HubRuns.{IssuesRun};
 ghost use Rattle.node_threads.specs.Outlets.{jobs_owed, AreFirst};
 ghost use Rattle.subj.specs.Answers.{IsAnswered, IsDecided};
 ghost use Rattle.claim_cells.specs.Calls.{IsLooked};
 ghost use Rattle.claim_cells.specs.Rule.{fresh_hub};
-ghost use Rattle.hub_core.specs.Chosen.{IsPlanOf, publication_by, turn_refusal};
-ghost use Rattle.hub_core.specs.Plain.{OwesPlainJob, behind_plain};
+ghost use Rattle.hub_core.specs.Chosen.{IsPlanOf, publication_by};
 ghost use Rattle.hub_core.specs.Calls.{job_of};
 ghost use Rattle.hub_core.specs.Events.{Receive, Drain, Drained, TakeFrom, Heard as WasHeard, Taken};
 ghost use Rattle.hub_core.specs.Publishing.{publish_refusal};
@@ -20,6 +18,8 @@ ghost use Rattle.route_session.specs.Events.{Dial, Accept, OnInfo, OnConnect, Cu
 ghost use Rattle.route_session.specs.Steps.{session_refusal};
 ghost use Rattle.node_threads.specs.AtHub.{Collects, Does, Looks, Publishes, Receives, Routes, refuses_busy, IsAtHub};
 ghost use Rattle.node_parts.specs.Sides.{ByHub, BySessions, OfHub, OfSessions, new_side, seen_name};
+
+mod lending;
 
 use crate::node_name::NodeName;
 use crate::shard_state::ShardState;
@@ -35,7 +35,7 @@ use std::alloc::{AllocError, Global};
 use std::marker::{Model, PhantomData};
 use std::sync::Wait;
 use sub_table::SubTable;
-use subj::{ConnId, Failure, Finished, Job, Pub, ServerIdentity, Turn};
+use subj::{ConnId, Failure, Finished, Job, Pub, QueueNames, ServerIdentity, Turn};
 
 /// The end of a shard's lane that runs are pushed at.
 ///
@@ -216,10 +216,10 @@ fn goes_on(last: &LentJob<'_>, conn: ConnId, run: &LentRun<'_>) -> bool
         × (last.now.publisher ≡ Some conn)
         × (last.now.echo ≡ run.now.echo) }
 {
-    if !last.queues().as_slice().is_empty() || last.publisher() != Some(conn) {
+    if last.publisher() != Some(conn) || last.echo() != run.echo() {
         return false;
     }
-    last.echo() == run.echo() && last.subject() == run.subject().bytes()
+    last.subject() == run.subject().bytes()
 }
 
 impl<N: NodeName> Outlet<N> {
@@ -261,35 +261,39 @@ impl<N: NodeName> Outlet<N> {
         self.unsent.push_message(message, origin, queues)
     }
 
-    /// Hands the next job, which is of a publication that no queue name wants, to the shards. Want of memory leaves all as it was.
-    /// Required: a run goes on with it ([`Outlet::is_on`]).
+    /// Hands the next job to the shards: that of a publication with these queue names, which are shared. Want of memory leaves all as it
+    /// was. Required: a run goes on with it ([`Outlet::run_names`]).
     fn add_next(
         &mut self,
         turn: Turn,
         origin: Origin,
         publication: &LentPub<'_>,
+        queues: QueueNames,
     ) -> Result<(), AllocError>
         requires turn { turn ≡ length self.old + 1 }
-        requires last { IsLast origin.publisher publication.now.message.subject origin.echo
+        requires last { IsLast origin.publisher publication.now.message.subject origin.echo queues
             self.old }
         ensures ok { OnOk result
-            (self.new ≡ self.old ++ job_by origin turn publication.now.message [] ∷ []) }
+            (self.new ≡ self.old ++ job_by origin turn publication.now.message queues ∷ []) }
         ensures err { OnErr result (self.new ≡ self.old) }
     {
         let _numbered = self.unsent.first_turn();
         begin_at(&mut self.unsent, turn);
-        self.unsent.push_next(&publication.parts(), origin)
+        self.unsent.push_next(&publication.parts(), origin, queues)
     }
 
-    /// Whether a run goes on with what this connection publishes on this subject, behind the last job that is not in a run. Then a shard
-    /// mostly delivers them at once, as they stand in their block.
-    fn is_on(&self, conn: ConnId, run: &LentRun<'_>) -> bool
-        ensures { result ≡ true → IsLast (Some conn) run.now.subject run.now.echo self.now }
+    /// The queue names of the last job that is not in a run, where a run goes on behind it with what this connection publishes on this
+    /// subject. Then a shard mostly delivers them at once, as they stand in their block, where there are no queue names. None for want of
+    /// memory, too.
+    fn run_names(&self, conn: ConnId, run: &LentRun<'_>) -> Option<QueueNames>
+        ensures { IfSome result (λ queues.
+            IsLast (Some conn) run.now.subject run.now.echo queues self.now) }
     {
-        match self.unsent.last() {
-            None => false,
-            Some(last) => goes_on(&last, conn, run),
+        let last = self.unsent.last()?;
+        if !goes_on(&last, conn, run) {
+            return None;
         }
+        last.queues().try_clone().ok()
     }
 
     /// Pushes what is not pushed yet, oldest first, as far as lanes have room and there is memory.
@@ -499,69 +503,6 @@ impl<N: NodeName> HubState<N> {
             unreachable!()
         };
         Ok(told)
-    }
-
-    /// Issues publications of the connection that are lent, one after the other, as [`HubState::publish`] does, as far as each owes a job to
-    /// the server's own shards and nothing else, whatever its word. No message is made of any. Gives how many; nothing was done of the
-    /// next: where a shard is a window behind, where the numbers are spent, and for want of memory. 0 where a run does not go on with
-    /// them. Required: the race of this server.
-    pub fn publish_run(&mut self, cells: &Cells, conn: ConnId, run: &mut LentRun<'_>) -> u64
-        requires { cells.now ≡ N.race }
-        ensures { IssuesRun N.race.shards conn result run.old run.new self.old self.new }
-    {
-        if !self.outlet.is_on(conn, run) {
-            return 0;
-        }
-        if run.peek().is_none() {
-            return 0;
-        }
-        if !self.side.hub().owes_plain_job(run.subject()) {
-            return 0;
-        }
-        let free = self.side.hub().turns_free(&self.finished);
-        for count in 0..free {
-            if !self.issue_next(cells, conn, run) {
-                return count;
-            }
-        }
-        free
-    }
-
-    /// Issues the next publication that is lent. Whether it did; where not, all is as it was. Required: a turn is free.
-    #[inline(always)]
-    fn issue_next(&mut self, cells: &Cells, conn: ConnId, run: &mut LentRun<'_>) -> bool
-        requires race { cells.now ≡ N.race }
-        requires plain { OwesPlainJob self.old.side.server self.old.side.hub run.old.subject }
-        requires free { turn_refusal self.old.side.server self.old.side.hub self.old.finished
-            ≡ None }
-        requires last { IsLast (Some conn) run.old.subject run.old.echo self.old.issued }
-        ensures issues { IssuesRun N.race.shards conn (if result then 1 else 0) run.old run.new
-            self.old self.new }
-        ensures last { IsLast (Some conn) run.new.subject run.new.echo self.new.issued }
-        ensures same { (self.new.finished ≡ self.old.finished)
-            × (self.new.side.server ≡ self.old.side.server)
-            × (self.new.side.hub
-            ≡ (if result then behind_plain 1 self.old.side.hub else self.old.side.hub)) }
-    {
-        let Some(ahead) = run.peek() else {
-            return false;
-        };
-        let Some(turn) = self.side.hub().issued().next() else {
-            // required: a turn is free
-            unreachable!()
-        };
-        let origin = Origin {
-            id: self.side.hub().next_id(),
-            publisher: Some(conn),
-            echo: run.echo(),
-        };
-        let Ok(()) = self.outlet.add_next(turn, origin, &ahead.publication) else {
-            return false;
-        };
-        run.pass(&ahead);
-        self.side.commit_plain();
-        cells.issue_shown(&mut self.seat);
-        true
     }
 
     /// The job of a message; the hub looks at the shards where it must.

@@ -19,6 +19,7 @@ mod hub_state;
 mod laws;
 mod node_name;
 mod noting;
+mod runs;
 mod shard_entries;
 mod shard_state;
 mod tape;

@@ -11,22 +11,20 @@ ghost use Rattle.shard_core.specs.ShardSteps.{shard_refusal};
 ghost use Rattle.node_threads.specs.AtWork.{Does, TakesBytes, at_start, Makes, HasDone};
 ghost use Rattle.claim_cells.specs.Seats.{last_load};
 ghost use Rattle.node_threads.specs.Tapes.{Grows, Tells, begin_entry};
-ghost use Rattle.node_threads.specs.Turns.{ClaimsOne, DeliversFirst, HasEnded, HasNone, HasTried, HasWorked, MayBegin, MayClaim, Turns, Drops, HasDropped};
+ghost use Rattle.node_threads.specs.Turns.{ClaimsOne, HasEnded, HasNone, HasTried, HasWorked, MayBegin, MayClaim, Turns, Drops, HasDropped};
 
 use crate::gates::Gate;
 use crate::node_name::NodeName;
 use crate::noting::{note_begin, note_claim, note_drop, note_end, note_no_job};
+use crate::runs::{tell, work_first};
 use crate::shard_entries::{Placements, ShardEntry};
 use crate::tape::Tape;
 use crate::turned::Turned;
 use claim_cells::{Cells, ShardSeat};
 use client_frames::{ErrText, ReplyFrame};
-use job_block::JobSlice;
 use job_lane::LaneOut;
 use outbox::Entry;
-use shard_core::{
-    Candidate, Closed, DirtyConns, Shard, ShardFault, Subscribed, claims_are_whole, runs_are_worked,
-};
+use shard_core::{Candidate, Closed, DirtyConns, Shard, ShardFault, Subscribed, claims_are_whole};
 use std::alloc::{AllocError, Global};
 use std::marker::{Model, PhantomData};
 use std::sync::Wait;
@@ -65,27 +63,6 @@ impl<T: SubTable, N: NodeName> Model for ShardState<T, N> {
         × (s.waits ≡ true → is_some s.lane.hand ≡ true)
         × (s.seat.race ≡ N.race)
         × (slice_get N.lanes (s.seat.part.shard - 1) ≡ Some s.lane.lane) };
-}
-
-/// Tells the gate of a candidate for the queue name of this index, in this turn of the seat's shard. Required: its claim is
-/// still to come.
-fn tell<G: Gate>(gate: &G, seat: &ShardSeat, turn: Turn, index: u64)
-    requires { seat.now.part.next ≤ index }
-{
-    gate.hold(seat.shard(), turn, index);
-}
-
-/// Delivers as many of these jobs at once as it can, from the first on and at most so many. Gives how
-/// many; 0 also where there are fewer than two, and for want of memory.
-fn deliver_first<T: SubTable>(shard: &mut Shard<T>, jobs: &JobSlice<'_>, most: u64) -> usize
-    ensures most { result ≤ most }
-    ensures delivers { DeliversFirst jobs.now result shard.old.state shard.new.state }
-{
-    let most = jobs.len().min(most as usize);
-    if most < 2 {
-        return 0;
-    }
-    shard.deliver_run(&jobs.first(most)).unwrap_or(0)
 }
 
 /// Writes down that the job in hand was begun, and which messages were placed then. Nothing where none is in hand.
@@ -294,7 +271,7 @@ impl<T: SubTable, N: NodeName> ShardState<T, N> {
         if !self.has_job(rt, cells) {
             return Turned::Idle;
         }
-        if let Some(turned) = self.work_run(cells, tape) {
+        if let Some(turned) = self.work_run(cells, gate, tape) {
             return turned;
         }
         self.work_one(cells, gate, tape)
@@ -302,8 +279,14 @@ impl<T: SubTable, N: NodeName> ShardState<T, N> {
 
     /// Works the jobs that wait to their ends at once, as many as that can be done of, where no tape is
     /// kept. None where it can be done of none.
-    fn work_run(&mut self, cells: &Cells, tape: &Tape<ShardEntry>) -> Option<Turned>
-        requires { cells.now ≡ N.race }
+    fn work_run<G: Gate>(
+        &mut self,
+        cells: &Cells,
+        gate: &G,
+        tape: &Tape<ShardEntry>,
+    ) -> Option<Turned>
+        requires race { cells.now ≡ N.race }
+        requires may { MayBegin self.old }
         ensures some { IfSome result (λ turned. Turns self.old turned self.new) }
         ensures none { IfNone result (self.new ≡ self.old) }
         ensures tells { Tells self.old tape.now self.new tape.now }
@@ -315,14 +298,12 @@ impl<T: SubTable, N: NodeName> ShardState<T, N> {
             // the job in hand of the lane waits
             unreachable!()
         };
-        let count = deliver_first(&mut self.shard, &jobs, self.seat.turns_seen());
+        let count = work_first(&mut self.shard, &mut self.seat, cells, gate, &jobs);
         if count == 0 {
             return None;
         }
-        runs_are_worked();
         let jobs = count as u64;
         self.lane.pop_behind(count - 1);
-        cells.finish_many(&mut self.seat, jobs);
         self.waits = false;
         self.next_index = 0;
         Some(Turned::WorkedRun {

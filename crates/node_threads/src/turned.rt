@@ -10,7 +10,7 @@ pub enum Turned {
     Idle,
     /// The job of this turn was worked to its end.
     Worked(Turn),
-    /// Several jobs that waited were worked to their ends together, as if one after the other.
+    /// Jobs that waited, one or more, were worked to their ends in one call, as if one after the other.
     WorkedRun {
         /// How many, at least one.
         jobs: u64,

@@ -11,14 +11,14 @@ use Rattle.shard_core.specs.Lines.{Turns}
 use Rattle.shard_core.specs.RunSteps.{GoesWith, GoTogether}
 
 -- behind the first of them a run goes on likewise
-alike_behind : (before : Job) (jobs : List Job) → AreAlike (before ∷ jobs) → AreAlike jobs
+pub alike_behind : (before : Job) (jobs : List Job) → AreAlike (before ∷ jobs) → AreAlike jobs
 alike_behind before jobs alike k one other first second =
     alike (suc k) one other first
     (ap (slice_get (before ∷ jobs)) {x = suc k + 1} {y = suc (k + 1)} (omega arith) ∙ second)
 
 goes_on : (first before job : Job) → GoesWith first before → FollowsAlike before job → GoesWith first job
 goes_on first before job goes follows = record {
-  unnamed = follows.unnamed;
+  unnamed = follows.queues ∙ goes.unnamed;
   plain = follows.plain;
   subject = follows.subject ∙ goes.subject;
   publisher = follows.publisher ∙ goes.publisher;
@@ -59,7 +59,7 @@ together first last finished (job ∷ jobs) begins goes turn alike ends =
       alike = each_goes first job jobs (subst (GoesWith first) (sym same) goes) alike;
     }
 
-at_front : (n : ℕ) (jobs : List Job) (k : ℕ) → k < n → slice_get (take n jobs) k ≡ slice_get jobs k
+pub at_front : (n : ℕ) (jobs : List Job) (k : ℕ) → k < n → slice_get (take n jobs) k ≡ slice_get jobs k
 at_front zero jobs k low = absurd (omega arith)
 at_front (suc n) [] k low = refl
 at_front (suc n) (job ∷ jobs) zero low = refl

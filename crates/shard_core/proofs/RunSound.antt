@@ -53,7 +53,7 @@ idle_counts : (hand : Option Job) (chosen : Option Subscription) (finished next_
 idle_counts None chosen finished next_index e = refl
 idle_counts (Some job) chosen finished next_index e = absurd (cc)
 
-possible_idle : (s : State) (chosen : Option Subscription) (next : List Client)
+pub possible_idle : (s : State) (chosen : Option Subscription) (next : List Client)
     → IsSound s chosen next → s.hand ≡ None → ArePossible s.opened (s.finished * each_turn) s.subs
 possible_idle s chosen next was idle =
     subst (λ n. ArePossible s.opened n s.subs) (idle_counts s.hand chosen s.finished s.next_index idle) was.possible

@@ -13,6 +13,8 @@ pub mod ShardEvents
 pub mod ShardSteps
 -- a shard between two calls, and how its calls go
 pub mod Held
+-- jobs that claim one queue name, worked one after the other
+pub mod ClaimRuns
 -- what the code keeps of a walk, and how that follows the walk
 pub mod Tallies
 -- how the code comes to a candidate
@@ -66,3 +68,5 @@ pub mod RunNoted
 pub mod RunExample
 -- how the code delivers a run
 pub mod RunSteps
+-- how the code works a run of claims
+pub mod ClaimMembers

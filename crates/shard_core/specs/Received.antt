@@ -1,14 +1,15 @@
 -- An open subscription that receives a subject, with what a delivery needs of it.
-use Rattle.std.specs.Prelude.{ℕ, Bool, List, map, is_some, is_none}
+use Rattle.std.specs.Prelude.{ℕ, Bool, List, Option, map, is_some, is_none}
 use Rattle.client_frames.specs.Messages.{head_bytes}
 use Rattle.sub_table.specs.declared.Subscription.{Subscription}
 
--- its serial, its connection, whether it has no queue name, whether it has a maximum, and what its
--- messages begin with
+-- its serial, its connection, whether it has no queue name, its queue name, whether it has a
+-- maximum, and what its messages begin with
 pub record Received : Type 0 where
   pub serial : ℕ
   pub conn : ℕ
   pub is_plain : Bool
+  pub queue : Option (List ℕ)
   pub is_limited : Bool
   pub head : List ℕ
 
@@ -17,6 +18,7 @@ receiver_of subject sub = record {
   serial = sub.serial;
   conn = sub.conn;
   is_plain = is_none sub.key.queue;
+  queue = sub.key.queue;
   is_limited = is_some sub.max;
   head = head_bytes subject sub.sid;
 }

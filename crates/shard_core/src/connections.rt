@@ -14,6 +14,8 @@ ghost use Rattle.shard_core.specs.Runs.{numbers_of};
 ghost use Rattle.shard_core.specs.RunSteps.{TakesRun, TakesRunAt};
 ghost use Rattle.shard_core.specs.ShardSteps.{new_client};
 
+mod queued;
+
 use crate::dirty_conns::DirtyConns;
 use crate::standings::{FormLengths, Seat, Standing, len_of, room_of, standing_at};
 use bytes::Bytes;

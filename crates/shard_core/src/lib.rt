@@ -14,10 +14,13 @@
 //! `receiver_walk` where who receives the subject is noted (`receivers`); `queue_claim` with `members` is the choice of one member.
 //!
 //! A run of jobs of one subject goes to the same receivers, so [`Shard::deliver_run`] (`shard/runs`) delivers it at once, by
-//! `run_delivery`; `run_laws` says that this leaves what the jobs leave, worked one after the other.
+//! `run_delivery`; `run_laws` says that this leaves what the jobs leave, worked one after the other. `claim_laws` speaks of jobs that claim
+//! one queue name, and `claim_run` works them ([`Shard::work_claims`], in `shard/claims`).
 #![tactic(auto)]
 
 mod calls;
+mod claim_laws;
+mod claim_run;
 mod connections;
 mod delivery_buffer;
 mod dirty_conns;
@@ -37,6 +40,8 @@ mod shard;
 mod standings;
 
 pub use calls::{BeginFault, Begun, Candidate, Closed, Placed, Subscribed};
+pub use claim_laws::{claims_are_steps, rooms_go_on};
+pub use claim_run::Claims;
 pub use connections::Conns;
 pub use dirty_conns::DirtyConns;
 pub use examples::{

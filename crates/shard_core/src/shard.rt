@@ -18,10 +18,12 @@ ghost use Rattle.shard_core.specs.Shards.{new_shard, clients_with_change, client
 ghost use Rattle.shard_core.specs.ShardEvents.{Attach, Subscribe, Unsubscribe, Reply, SetHeaders, HeadersSet, Shut, Detach, Take, Begin, Claim, End, DropJob, Drain, Drains, Collect, Attached, Unsubscribed, Replied, WasShut, Detached, Taken, Finished, Dropped, Collected};
 ghost use Rattle.shard_core.specs.ShardSteps.{shard_refusal, sub_called as call, ended_now, IsHanded};
 
+mod claims;
 mod refusals;
 mod runs;
 
 use crate::calls::{BeginFault, Begun, Candidate, Closed, Subscribed};
+use crate::claim_run::ClaimBuffer;
 use crate::connections::Conns;
 use crate::delivery_buffer::{DeliveryBuffer, is_last, message_lengths, place_all, sub_ids};
 use crate::dirty_conns::DirtyConns;
@@ -216,6 +218,8 @@ pub struct Shard<T: SubTable> {
     tails: MessageTails,
     /// The memory of a run.
     run: RunBuffer,
+    /// The memory of a run of claims.
+    claims: ClaimBuffer,
     /// Up to this turn no run is tried: the last one could not be delivered at once.
     tried: Turn,
     /// For which connections something was put.
@@ -284,6 +288,7 @@ impl<T: SubTable> Shard<T> {
             buffer: DeliveryBuffer::new(alloc, shard),
             tails: MessageTails::new(alloc),
             run: RunBuffer::new(alloc),
+            claims: ClaimBuffer::new(alloc),
             tried: Turn::zero(),
             dirty_conns: DirtyConns::new(alloc),
         })

@@ -1,6 +1,6 @@
 -- A server without an eligible peer serves all queue names of its own counts itself.
-use Rattle.std.proofs.Common.{◌≡◌, ℕ, zero, suc, ◌+◌, ◌<◌, ◌≤◌, ◌%◌, Bool, true, false, ◌&&◌, cond, nat_eq, List, [], ◌∷◌, ◌++◌, length, Option, Some, All, refl, sym, ap, ◌∙◌, subst, inl, inr, ⊎_elim, arith, append-nil}
-use Rattle.std.specs.Prelude.{filter, replicate, slice_get, not, nat_lt, nat_le}
+use Rattle.std.proofs.Common.{◌≡◌, ℕ, zero, suc, ◌+◌, ◌<◌, ◌≤◌, ◌%◌, Bool, true, false, ◌&&◌, cond, nat_eq, List, [], ◌∷◌, ◌++◌, length, Some, All, refl, sym, ap, ◌∙◌, subst, inl, inr, ⊎_elim, arith, append-nil}
+use Rattle.std.specs.Prelude.{replicate, slice_get, not, nat_lt, nat_le}
 use Rattle.std.specs.Map.{values_of}
 use Rattle.std.proofs.lemmas.Bool.{cases_lt}
 use Rattle.std.proofs.lemmas.List.{length-replicate}
@@ -13,18 +13,13 @@ use Rattle.list_laws.proofs.Tests.{and_true, not_true, eq_true, eq_false, le_tru
 use Rattle.subj.specs.declared.keys.Key.{Key}
 use Rattle.subj.specs.declared.limits.TheConstants.{MAX_QUEUE_NAMES, MAX_WEIGHT}
 use Rattle.subj.specs.Matching.{subject_matches}
-use Rattle.subj.specs.Messages.{Content}
 use Rattle.subj.specs.QueueNames.{are_rising, is_named}
 use Rattle.subj.specs.Servers.{ServerIdentity, IsListed, name_of, own_name}
 use Rattle.pick.specs.Pick.{units}
-use Rattle.route_values.specs.declared.bodies.Body.TheVariants.{Msg}
-use Rattle.route_values.specs.Frames.{Frame}
 use Rattle.interest.specs.Counts.{Counts, IsInterest}
 use Rattle.interest.specs.Matches.{names_in, weight_in, matching_weight}
 use Rattle.hub_core.specs.State.{State, Peer, IsSound}
-use Rattle.hub_core.specs.Choice.{is_eligible, weights_from, names_from, names_for, queue_names}
-use Rattle.hub_core.specs.Publishing.{Publication, subject_of, choice_of, is_owed, frames_from, frames_of}
-use Rattle.hub_core.specs.Publishing as publishing
+use Rattle.hub_core.specs.Choice.{is_eligible, weights_from, server_for, names_from, queue_names}
 use Rattle.hub_core.specs.Serving.{is_alone_from, ServesAlone}
 use Rattle.hub_core.specs.Wanted.{Wants, SomeWants}
 use Rattle.hub_core.proofs.Choices.Wanted.{from_keys}
@@ -48,7 +43,7 @@ others server q peer peers alone =
 
 -- ---- no peer adds a name, and none is owed a frame
 
-pub names_alone : (server : ServerIdentity) (subject : List ℕ) (q : ℕ) (peers : List Peer) (names : List (List ℕ))
+names_alone : (server : ServerIdentity) (subject : List ℕ) (q : ℕ) (peers : List Peer) (names : List (List ℕ))
     → Alone server q peers
     → names_from server subject q peers names ≡ names
 names_alone server subject q [] names alone = refl
@@ -56,27 +51,6 @@ names_alone server subject q (peer ∷ peers) names alone =
     ap (λ b. names_from server subject (suc q) peers (cond b (names_in subject peer.heard.keys names) names))
     (first server q peer peers alone)
     ∙ names_alone server subject (suc q) peers names (others server q peer peers alone)
-
-frames_alone : (server : ServerIdentity) (number : ℕ) (content : Content) (choice : List ℕ → Option (List ℕ))
-    (names : List (List ℕ)) (q : ℕ) (peers : List Peer)
-    → Alone server q peers
-    → frames_from server number content choice names q peers ≡ []
-frames_alone server number content choice names q [] alone = refl
-frames_alone server number content choice names q (peer ∷ peers) alone =
-    let queues = names_for choice (name_of server q) names in
-    let frame : Frame = record {
-      from = own_name server;
-      inc = server.inc;
-      to = name_of server q;
-      to_inc = peer.seen;
-      number = number;
-      body = Msg content queues;
-    } in
-    ap (λ b.
-    cond (b && is_owed content.subject queues peer) (frame ∷ []) []
-    ++ frames_from server number content choice names (suc q) peers)
-    (first server q peer peers alone)
-    ∙ frames_alone server number content choice names (suc q) peers (others server q peer peers alone)
 
 -- ---- all units are the server's own
 
@@ -192,43 +166,29 @@ weighs subject z counts valid i =
     omega arith)
     (λ (j : In z []). absurd j) (from_keys subject z counts [] i)
 
-filter_all : (test : List ℕ → Bool) (xs : List (List ℕ))
-    → ((z : List ℕ) → In z xs → test z ≡ true)
-    → filter test xs ≡ xs
-filter_all test [] all = refl
-filter_all test (x ∷ xs) all =
-    ap (λ b. cond b (x ∷ filter test xs) (filter test xs)) (all x (inl refl))
-    ∙ ap (λ l. x ∷ l) (filter_all test xs (λ z i. all z (inr i)))
+-- ---- just they want the subject, and each is served here
 
--- ---- what is owed then
+pub wanted_alone : (server : ServerIdentity) (hub : State) (subject : List ℕ) (names : List (List ℕ))
+    → ServesAlone server hub subject names
+    → names ≡ queue_names server hub subject
+wanted_alone server hub subject names serves =
+    serves.in_mind.names_are
+    ∙ sym (names_alone server subject 0 hub.peers (names_in subject hub.counts []) serves.alone)
 
-module _ (server : ServerIdentity) (hub : State) (p : Publication) (names : List (List ℕ)) (listed : IsListed server)
-    (sound : IsSound server hub) (serves : ServesAlone server hub (subject_of p) names) where
-  wanted : names ≡ publishing.names_of server hub p
-  wanted =
-      serves.in_mind.names_are
-      ∙ sym (names_alone server (subject_of p) 0 hub.peers (names_in (subject_of p) hub.counts []) serves.alone)
-
-  chosen : (z : List ℕ) → In z names → is_named (own_name server) (choice_of server hub p z) ≡ true
-  chosen z i =
-      let some = weighs (subject_of p) z hub.counts serves.in_mind.counted (subst (In z) serves.in_mind.names_are i) in
-      let me = listed.listed in
-      let placed = sound.placed in
-      ap (is_named (own_name server))
-      (ap (λ us. slice_get us (p.word % length us))
-      (own_units server hub.counts (subject_of p) z 0 hub.peers (omega arith) (omega arith) serves.alone)
-      ∙ picked (weight_in (subject_of p) z hub.counts) p.word (own_name server) some)
-      ∙ (bytes_eq-Decides (own_name server) (own_name server)).1 refl
-
-  pub serves_all : names ≡ names_for (choice_of server hub p) (own_name server) (publishing.names_of server hub p)
-  serves_all =
-      sym (filter_all (λ name. is_named (own_name server) (choice_of server hub p name)) names chosen)
-      ∙ ap (names_for (choice_of server hub p) (own_name server)) wanted
-
-  pub sends_none : [] ≡ frames_of server hub p
-  sends_none =
-      sym (frames_alone server (hub.published + 1) p.publication.message (choice_of server hub p)
-      (publishing.names_of server hub p) 0 hub.peers serves.alone)
+pub chosen_alone : (server : ServerIdentity) (hub : State) (subject : List ℕ) (names : List (List ℕ))
+    → IsListed server
+    → IsSound server hub
+    → ServesAlone server hub subject names
+    → (word : ℕ) (z : List ℕ)
+    → In z names
+    → server_for server hub subject word z ≡ Some (own_name server)
+chosen_alone server hub subject names listed sound serves word z i =
+    let some = weighs subject z hub.counts serves.in_mind.counted (subst (In z) serves.in_mind.names_are i) in
+    let me = listed.listed in
+    let placed = sound.placed in
+    ap (λ us. slice_get us (word % length us))
+    (own_units server hub.counts subject z 0 hub.peers (omega arith) (omega arith) serves.alone)
+    ∙ picked (weight_in subject z hub.counts) word (own_name server) some
 
 -- ---- and there are not too many
 
@@ -236,8 +196,7 @@ pub few_alone : (server : ServerIdentity) (hub : State) (subject : List ℕ) (na
     → ServesAlone server hub subject names
     → nat_lt MAX_QUEUE_NAMES (length (queue_names server hub subject)) ≡ false
 few_alone server hub subject names serves =
-    let are : names ≡ queue_names server hub subject = serves.in_mind.names_are
-    ∙ sym (names_alone server subject 0 hub.peers (names_in subject hub.counts []) serves.alone) in
+    let are = wanted_alone server hub subject names serves in
     let few = le_true (length names) MAX_QUEUE_NAMES
     (and_true (nat_le (length names) MAX_QUEUE_NAMES) (are_rising names) serves.in_mind.ordered).0 in
     ap (λ (names : List (List ℕ)). nat_lt MAX_QUEUE_NAMES (length names)) (sym are)

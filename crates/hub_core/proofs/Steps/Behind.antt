@@ -15,7 +15,7 @@ use Rattle.hub_core.specs.declared.faults.HubFault.{HubFault}
 use Rattle.hub_core.specs.declared.faults.HubFault.TheVariants.{Busy as BusyFault, Spent}
 use Rattle.hub_core.specs.State.{State}
 use Rattle.hub_core.specs.Chosen.{turn_refusal}
-use Rattle.hub_core.specs.Plain.{behind_plain}
+use Rattle.hub_core.specs.Local.{behind_local}
 
 pub no_busy : (issued : ℕ) (finished : List ℕ)
     → position (is_behind issued) finished ≡ None
@@ -52,13 +52,13 @@ none_behind_all issued finished all =
     ap (option_map (busy_at finished))
     (position_from-zero (is_behind issued) finished ∙ none_from (is_behind issued) 0 finished all)
 
--- there is a turn behind so many plain publications
-pub turn_behind_plain : (server : ServerIdentity) (hub : State) (finished : List ℕ) (count : ℕ)
+-- there is a turn behind so many local publications
+pub turn_behind_local : (server : ServerIdentity) (hub : State) (finished : List ℕ) (count : ℕ)
     → busy_of (hub.issued + count) (take server.shards finished) ≡ None
     → hub.published + count < MAX_COUNTER
     → hub.issued + count < MAX_COUNTER
-    → turn_refusal server (behind_plain count hub) finished ≡ None
-turn_behind_plain server hub finished count free number turn =
+    → turn_refusal server (behind_local count hub) finished ≡ None
+turn_behind_local server hub finished count free number turn =
     (λ k.
     option_or (option_map BusyFault (free k))
     (if numbers k || turns k then (let why : Option HubFault = Some Spent in why) else None))

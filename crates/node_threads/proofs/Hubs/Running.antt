@@ -17,10 +17,10 @@ use Rattle.publication_runs.specs.Lent.{LentState, Gives, GivesOne}
 use Rattle.hub_core.specs.Events as of_hub
 use Rattle.hub_core.specs.Calls.{IsPlanned, after_frames}
 use Rattle.hub_core.specs.Chosen.{IsPlanOf, publication_by, turn_refusal}
-use Rattle.hub_core.specs.Plain.{OwesPlainJob, HasTurnsFor, behind_plain, plain_job}
+use Rattle.hub_core.specs.Local.{OwesLocalJob, HasTurnsFor, behind_local, local_job}
 use Rattle.hub_core.specs.Publishing.{Publication, busy_fault, next_id, own_job, frames_of, publish_refusal}
 use Rattle.hub_core.specs.declared.faults.HubFault.TheVariants.{Spent}
-use Rattle.hub_core.proofs.Choices.Plain.{is_plain, stays_plain, no_frames}
+use Rattle.hub_core.proofs.Choices.Local.{is_local, stays_local, no_frames}
 use Rattle.hub_core.proofs.Steps.Rooms.{or_none}
 use Rattle.node_parts.specs.Sides.{HubWithSessions, ByHub, OfHub}
 use Rattle.node_parts.specs.declared.told.Issued.{Issued}
@@ -106,27 +106,27 @@ next_is turn next is = go (nat_lt MAX_COUNTER (turn + 1)) is
     go true e = absurd (cc (e))
     go false e = cc (e)
 
-module _ (shards conn : ℕ) (w : AtHub) (said : Pub) where
+module _ (shards conn : ℕ) (w : AtHub) (said : Pub) (queues : List (List ℕ)) where
   abbrev asked : ℕ → Publication
   asked word = publication_by conn said word
 
   abbrev job : Job
-  job = plain_job w.side.server w.side.hub (asked 0)
+  job = local_job w.side.server w.side.hub (asked 0) queues
 
-  pub is_planned : OwesPlainJob w.side.server w.side.hub said.message.subject
+  pub is_planned : OwesLocalJob w.side.server w.side.hub said.message.subject queues
       → turn_refusal w.side.server w.side.hub w.finished ≡ None
       → IsPlanned w.side.server w.side.hub []
   is_planned owes free =
-      let plain = is_plain w.side.server w.side.hub (asked 0) owes in
+      let local = is_local w.side.server w.side.hub (asked 0) queues owes in
       record {
         publication = asked 0;
         finished = w.finished;
-        taken = plain.refusal w.finished ∙ free;
-        frames_are = sym plain.frames;
+        taken = local.refusal w.finished ∙ free;
+        frames_are = sym local.frames;
       }
 
   module _ (side : HubWithSessions) (part : HubPart) (i : IsAtHub shards w)
-      (owes : OwesPlainJob w.side.server w.side.hub said.message.subject)
+      (owes : OwesLocalJob w.side.server w.side.hub said.message.subject queues)
       (free : turn_refusal w.side.server w.side.hub w.finished ≡ None)
       (side_is : side ≡ record w.side { hub = after_frames w.side.server w.side.hub [] })
       (part_is : part ≡ issued_one w.part) where
@@ -143,10 +143,10 @@ module _ (shards conn : ℕ) (w : AtHub) (said : Pub) where
     is_issued : (word : ℕ) → IsIssued (asked word)
     is_issued word =
         let p = asked word in
-        let plain = is_plain w.side.server w.side.hub p owes in
+        let local = is_local w.side.server w.side.hub p queues owes in
         let own = own_job w.side.server w.side.hub p in
-        let taken = plain.refusal w.finished ∙ free in
-        let plan : IsPlanOf w.side.server w.side.hub p own [] = record { job = refl; frames = sym plain.frames } in
+        let taken = local.refusal w.finished ∙ free in
+        let plan : IsPlanOf w.side.server w.side.hub p own [] = record { job = refl; frames = sym local.frames } in
         let done = published_done w p own [] side taken plan side_is in
         let h : HasIssued w.part part = record {
           more = [];
@@ -157,8 +157,8 @@ module _ (shards conn : ℕ) (w : AtHub) (said : Pub) where
         let two = issues shards w side part (ByHub (of_hub.Publish p w.finished))
         (OfHub (of_hub.Issued own (frames_of w.side.server w.side.hub p))) own i done h
         (ap (λ (t : HubWithSessions). t.hub.issued) side_is) refl refl
-        (ap (λ (j : Job). are_queue_names j.queues) plain.job) in
-        let jobs_are : w.issued ++ own ∷ [] ≡ w.issued ++ job ∷ [] = λ k. w.issued ++ plain.job k ∷ [] in
+        (ap (λ (j : Job). are_queue_names j.queues) local.job ∙ owes.few) in
+        let jobs_are : w.issued ++ own ∷ [] ≡ w.issued ++ job ∷ [] = λ k. w.issued ++ local.job k ∷ [] in
         record {
           taken = taken;
           keeps = subst (λ (js : List Job). IsAtHub shards (hub_at side part w.finished js)) jobs_are two.0;
@@ -169,38 +169,39 @@ module _ (shards conn : ℕ) (w : AtHub) (said : Pub) where
               jobs_are two.1;
         }
 
-    pub keeps_plain : IsAtHub shards after
-    keeps_plain = (is_issued 0).keeps
+    pub keeps_local : IsAtHub shards after
+    keeps_local = (is_issued 0).keeps
 
-    pub publishes_plain : (word : ℕ)
+    pub publishes_local : (word : ℕ)
         → Publishes shards w (asked word) (Ok (record { turn = w.side.hub.issued + 1; frames = 0 })) after
-    publishes_plain word =
+    publishes_local word =
         let one = is_issued word in
-        let plain = is_plain w.side.server w.side.hub (asked word) owes in
+        let local = is_local w.side.server w.side.hub (asked word) queues owes in
         let told : Issued = record { turn = w.side.hub.issued + 1; frames = 0 } in
         let published : IsPublished w (asked word) told after = record {
           issues = one.issued;
           turn = refl;
-          frames = ap length (sym plain.frames);
+          frames = ap length (sym local.frames);
         } in
         record { seen = w; looks = inl refl; answered = (one.taken, published) }
 
-    pub runs_plain : (from to : LentState) → GivesOne said from to → IssuesRun shards conn 1 from to w after
-    runs_plain from to gives = record {
+    pub runs_local : (from to : LentState) → GivesOne said from to → IssuesRun shards conn 1 from to w after
+    runs_local from to gives = record {
       publications = said ∷ [];
       counted = refl;
       given = (to, gives, refl);
-      each = (after, record { turn = w.side.hub.issued + 1; frames = 0 }, publishes_plain, refl);
+      each = (after, record { turn = w.side.hub.issued + 1; frames = 0 }, publishes_local, refl);
     }
 
 -- the last job is that of the one that was given last
-pub is_last : (jobs : List Job) (job : Job) (conn : ℕ) (said : Pub) (from to : LentState)
+pub is_last : (jobs : List Job) (job : Job) (conn : ℕ) (said : Pub) (queues : List (List ℕ)) (from to : LentState)
     → GivesOne said from to
     → job.message ≡ said.message
     → job.publisher ≡ Some conn
     → job.echo ≡ said.echo
-    → IsLast (Some conn) to.subject to.echo (jobs ++ job ∷ [])
-is_last jobs job conn said from to gives message publisher echo = record {
+    → job.queues ≡ queues
+    → IsLast (Some conn) to.subject to.echo queues (jobs ++ job ∷ [])
+is_last jobs job conn said queues from to gives message publisher echo names = record {
   last = job;
   stands = last_behind jobs (job ∷ []) (omega arith);
   subject_same =
@@ -210,57 +211,59 @@ is_last jobs job conn said from to gives message publisher echo = record {
       ∙ sym gives.same_subject;
   publisher_same = publisher;
   echo_same = echo ∙ ap (λ (p : Pub). p.echo) gives.is_as ∙ sym gives.same_echo;
+  queues_same = names;
 }
 
 -- ---- the whole of it
 
-pub record OneIssued (shards conn : ℕ) (from to : LentState) (w new : AtHub) : Type 0 where
+pub record OneIssued (shards conn : ℕ) (queues : List (List ℕ)) (from to : LentState) (w new : AtHub) :
+    Type 0 where
   pub keeps : IsAtHub shards new
   pub issues : IssuesRun shards conn 1 from to w new
-  pub last : IsLast (Some conn) to.subject to.echo new.issued
+  pub last : IsLast (Some conn) to.subject to.echo queues new.issued
   pub server : new.side.server ≡ w.side.server
-  pub hub : new.side.hub ≡ behind_plain 1 w.side.hub
+  pub hub : new.side.hub ≡ behind_local 1 w.side.hub
 
-pub one_issued : (shards conn : ℕ) (w : AtHub) (said : Pub) (from between to : LentState) (origin : Origin) (turn : ℕ)
-    (side : HubWithSessions) (part : HubPart) (jobs : List Job)
+pub one_issued : (shards conn : ℕ) (w : AtHub) (said : Pub) (queues : List (List ℕ)) (from between to : LentState)
+    (origin : Origin) (turn : ℕ) (side : HubWithSessions) (part : HubPart) (jobs : List Job)
     → IsAtHub shards w
-    → OwesPlainJob w.side.server w.side.hub from.subject
+    → OwesLocalJob w.side.server w.side.hub from.subject queues
     → turn_refusal w.side.server w.side.hub w.finished ≡ None
     → between ≡ from
     → GivesOne said between to
     → Some turn ≡ next_turn w.side.hub.issued
     → origin ≡ record { id = next_id w.side.server w.side.hub; publisher = Some conn; echo = from.echo }
-    → jobs ≡ w.issued ++ job_of origin turn said.message [] ∷ []
+    → jobs ≡ w.issued ++ job_of origin turn said.message queues ∷ []
     → side ≡ record w.side { hub = after_frames w.side.server w.side.hub [] }
     → part ≡ issued_one w.part
-    → OneIssued shards conn from to w (hub_at side part w.finished jobs)
-one_issued shards conn w said from between to origin turn side part jobs i owes free same gives next origin_is jobs_are
-    side_is part_is =
+    → OneIssued shards conn queues from to w (hub_at side part w.finished jobs)
+one_issued shards conn w said queues from between to origin turn side part jobs i owes free same gives next origin_is
+    jobs_are side_is part_is =
     let given : GivesOne said from to = subst (λ (s : LentState). GivesOne said s to) same gives in
-    let on : said.message.subject ≡ from.subject =
-    ap (λ (p : Pub). p.message.subject) given.is_as ∙ given.is_on in
-    let plain : OwesPlainJob w.side.server w.side.hub said.message.subject =
-    subst (OwesPlainJob w.side.server w.side.hub) (sym on) owes in
+    let on : said.message.subject ≡ from.subject = ap (λ (p : Pub). p.message.subject) given.is_as ∙ given.is_on in
+    let local : OwesLocalJob w.side.server w.side.hub said.message.subject queues =
+    subst (λ subject. OwesLocalJob w.side.server w.side.hub subject queues) (sym on) owes in
     let turn_is : turn ≡ w.side.hub.issued + 1 = next_is w.side.hub.issued turn next in
     let echo_is : from.echo ≡ said.echo = sym (ap (λ (p : Pub). p.echo) given.is_as) in
-    let job = job_of origin turn said.message [] in
-    let job_is : job ≡ plain_job w.side.server w.side.hub (publication_by conn said 0) =
-    (λ k. job_of (origin_is k) (turn_is k) said.message [])
-    ∙ (λ k. job_of (record { id = next_id w.side.server w.side.hub; publisher = Some conn; echo = echo_is k })
-    (w.side.hub.issued + 1) said.message []) in
-    let all : jobs ≡ w.issued ++ plain_job w.side.server w.side.hub (publication_by conn said 0) ∷ [] =
+    let job = job_of origin turn said.message queues in
+    let job_is : job ≡ local_job w.side.server w.side.hub (publication_by conn said 0) queues =
+    (λ k. job_of (origin_is k) (turn_is k) said.message queues)
+    ∙ (λ k.
+    job_of (record { id = next_id w.side.server w.side.hub; publisher = Some conn; echo = echo_is k })
+    (w.side.hub.issued + 1) said.message queues) in
+    let all : jobs ≡ w.issued ++ local_job w.side.server w.side.hub (publication_by conn said 0) queues ∷ [] =
     jobs_are ∙ (λ k. w.issued ++ job_is k ∷ []) in
     record {
       keeps =
           subst (λ (js : List Job). IsAtHub shards (hub_at side part w.finished js)) (sym all)
-          (keeps_plain shards conn w said side part i plain free side_is part_is);
+          (keeps_local shards conn w said queues side part i local free side_is part_is);
       issues =
           subst (λ (js : List Job). IssuesRun shards conn 1 from to w (hub_at side part w.finished js)) (sym all)
-          (runs_plain shards conn w said side part i plain free side_is part_is from to given);
+          (runs_local shards conn w said queues side part i local free side_is part_is from to given);
       last =
-          subst (λ (js : List Job). IsLast (Some conn) to.subject to.echo js) (sym all)
-          (is_last w.issued (plain_job w.side.server w.side.hub (publication_by conn said 0)) conn said from to given
-          refl refl refl);
+          subst (λ (js : List Job). IsLast (Some conn) to.subject to.echo queues js) (sym all)
+          (is_last w.issued (local_job w.side.server w.side.hub (publication_by conn said 0) queues) conn said queues
+          from to given refl refl refl refl);
       server = ap (λ (t : HubWithSessions). t.server) side_is;
       hub = ap (λ (t : HubWithSessions). t.hub) side_is ∙ no_frames w.side.server w.side.hub;
     }
@@ -268,17 +271,18 @@ one_issued shards conn w said from between to origin turn side part jobs i owes 
 -- ---- all of them
 
 -- what stays behind so many of them, of the hub that there was
-pub record IsRunning (shards conn count : ℕ) (from to : LentState) (old new : AtHub) : Type 0 where
+pub record IsRunning (shards conn count : ℕ) (queues : List (List ℕ)) (from to : LentState) (old new : AtHub) :
+    Type 0 where
   pub issues : IssuesRun shards conn count from to old new
-  pub last : IsLast (Some conn) to.subject to.echo new.issued
+  pub last : IsLast (Some conn) to.subject to.echo queues new.issued
   pub finished : new.finished ≡ old.finished
   pub server : new.side.server ≡ old.side.server
-  pub hub : new.side.hub ≡ behind_plain count old.side.hub
+  pub hub : new.side.hub ≡ behind_local count old.side.hub
 
-pub begins : (shards conn : ℕ) (from : LentState) (w : AtHub)
-    → IsLast (Some conn) from.subject from.echo w.issued
-    → IsRunning shards conn 0 from from w w
-begins shards conn from w last = record {
+pub begins : (shards conn : ℕ) (queues : List (List ℕ)) (from : LentState) (w : AtHub)
+    → IsLast (Some conn) from.subject from.echo queues w.issued
+    → IsRunning shards conn 0 queues from from w w
+begins shards conn queues from w last = record {
   issues = no_run shards conn from from w w refl refl;
   last = last;
   finished = refl;
@@ -290,43 +294,44 @@ begins shards conn from w last = record {
     none n = omega arith
 
 -- it owes a job still
-pub still_plain : (shards conn count : ℕ) (from to : LentState) (old new : AtHub)
-    → IsRunning shards conn count from to old new
-    → OwesPlainJob old.side.server old.side.hub from.subject
-    → OwesPlainJob new.side.server new.side.hub to.subject
-still_plain shards conn count from to old new r owes =
-    let behind = stays_plain old.side.server old.side.hub from.subject count owes in
+pub still_local : (shards conn count : ℕ) (queues : List (List ℕ)) (from to : LentState) (old new : AtHub)
+    → IsRunning shards conn count queues from to old new
+    → OwesLocalJob old.side.server old.side.hub from.subject queues
+    → OwesLocalJob new.side.server new.side.hub to.subject queues
+still_local shards conn count queues from to old new r owes =
+    let behind = stays_local old.side.server old.side.hub from.subject queues count owes in
     let same = same_subject shards conn count from to old new r.issues in
-    subst (λ server. OwesPlainJob server new.side.hub to.subject) (sym r.server)
-    (subst (λ hub. OwesPlainJob old.side.server hub to.subject) (sym r.hub)
-    (subst (λ subject. OwesPlainJob old.side.server (behind_plain count old.side.hub) subject) (sym same) behind))
+    subst (λ server. OwesLocalJob server new.side.hub to.subject queues) (sym r.server)
+    (subst (λ hub. OwesLocalJob old.side.server hub to.subject queues) (sym r.hub)
+    (subst (λ subject. OwesLocalJob old.side.server (behind_local count old.side.hub) subject queues) (sym same)
+    behind))
 
 -- a turn is free still
-pub still_free : (shards conn count free : ℕ) (from to : LentState) (old new : AtHub)
-    → IsRunning shards conn count from to old new
+pub still_free : (shards conn count free : ℕ) (queues : List (List ℕ)) (from to : LentState) (old new : AtHub)
+    → IsRunning shards conn count queues from to old new
     → HasTurnsFor old.side.server old.side.hub old.finished free
     → count < free
     → turn_refusal new.side.server new.side.hub new.finished ≡ None
-still_free shards conn count free from to old new r has low =
+still_free shards conn count free queues from to old new r has low =
     (λ k. turn_refusal (r.server k) (r.hub k) (r.finished k)) ∙ has count low
 
 -- and one more is issued
-pub runs_on : (shards conn count : ℕ) (from between to : LentState) (old mid new : AtHub)
-    → IsRunning shards conn count from between old mid
+pub runs_on : (shards conn count : ℕ) (queues : List (List ℕ)) (from between to : LentState) (old mid new : AtHub)
+    → IsRunning shards conn count queues from between old mid
     → IssuesRun shards conn 1 between to mid new
-    → IsLast (Some conn) to.subject to.echo new.issued
+    → IsLast (Some conn) to.subject to.echo queues new.issued
     → new.finished ≡ mid.finished
     → new.side.server ≡ mid.side.server
-    → new.side.hub ≡ behind_plain 1 mid.side.hub
-    → IsRunning shards conn (count + 1) from to old new
-runs_on shards conn count from between to old mid new r one last finished server hub = record {
+    → new.side.hub ≡ behind_local 1 mid.side.hub
+    → IsRunning shards conn (count + 1) queues from to old new
+runs_on shards conn count queues from between to old mid new r one last finished server hub = record {
   issues = runs_more shards conn count 1 from between to old mid new r.issues one;
   last = last;
   finished = finished ∙ r.finished;
   server = server ∙ r.server;
   hub =
       hub
-      ∙ ap (λ h. behind_plain 1 h) r.hub
+      ∙ ap (λ h. behind_local 1 h) r.hub
       ∙ (λ k. record old.side.hub { issued = more old.side.hub.issued k; published = more old.side.hub.published k });
 }
   where
@@ -334,10 +339,10 @@ runs_on shards conn count from between to old mid new r one last finished server
     more n = omega arith
 
 -- or it ends there
-pub runs_out : (shards conn count : ℕ) (from between to : LentState) (old mid new : AtHub)
-    → IsRunning shards conn count from between old mid
+pub runs_out : (shards conn count : ℕ) (queues : List (List ℕ)) (from between to : LentState) (old mid new : AtHub)
+    → IsRunning shards conn count queues from between old mid
     → IssuesRun shards conn 0 between to mid new
     → IssuesRun shards conn count from to old new
-runs_out shards conn count from between to old mid new r none =
+runs_out shards conn count queues from between to old mid new r none =
     subst (λ n. IssuesRun shards conn n from to old new) (let same : count + 0 ≡ count = omega arith in same)
     (runs_more shards conn count 0 from between to old mid new r.issues none)

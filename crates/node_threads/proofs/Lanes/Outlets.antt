@@ -1,5 +1,6 @@
 -- Jobs on their way to the lanes.
-use Rattle.std.specs.Prelude.{is_some, slice_get, OnOk, OnErr}
+use Rattle.std.specs.Prelude.{is_some, slice_get, OnOk, OnErr, IfOk, IfSome}
+use Rattle.std.specs.Result.{result_ok}
 use Rattle.std.proofs.Common.{◌≡◌, ℕ, zero, suc, ◌+◌, ◌-◌, ◌<◌, Bool, true, false, true≢false, List, [], ◌∷◌, ◌++◌, length, map, get_or, All, Option, Some, None, Result, Ok, Err, refl, sym, ap, ◌∙◌, subst, append_assoc, append-nil, length-append, arith}
 use Rattle.std.proofs.lemmas.List.{length-map, get_or-map}
 use Rattle.std.proofs.lemmas.Option.{slice_get_within}
@@ -246,26 +247,27 @@ handed_last run unsent (l ∷ ls) lanes some =
     last_behind l.pushed (owed ++ unsent) (let long = length-append owed unsent in omega (arith, long, some))
     ∙ last_behind owed unsent some
 
-pub last_unsent : (publisher : Option ℕ) (subject : List ℕ) (echo : Bool) (run : Option (List Job)) (unsent : List Job)
-    (lines : List LaneSender)
+pub last_unsent : (publisher : Option ℕ) (subject : List ℕ) (echo : Bool) (queues : List (List ℕ))
+    (run : Option (List Job)) (unsent : List Job) (lines : List LaneSender)
     → IsOutlet run unsent lines
-    → IsLast publisher subject echo (jobs_handed run unsent lines)
+    → IsLast publisher subject echo queues (jobs_handed run unsent lines)
     → 0 < length unsent
-    → IsLast publisher subject echo unsent
-last_unsent publisher subject echo run unsent lines i last some = record {
+    → IsLast publisher subject echo queues unsent
+last_unsent publisher subject echo queues run unsent lines i last some = record {
   last = last.last;
   stands = sym (handed_last run unsent lines i.some some) ∙ last.stands;
   subject_same = last.subject_same;
   publisher_same = last.publisher_same;
   echo_same = last.echo_same;
+  queues_same = last.queues_same;
 }
 
-pub last_handed : (publisher : Option ℕ) (subject : List ℕ) (echo : Bool) (run : Option (List Job)) (unsent : List Job)
-    (lines : List LaneSender)
+pub last_handed : (publisher : Option ℕ) (subject : List ℕ) (echo : Bool) (queues : List (List ℕ))
+    (run : Option (List Job)) (unsent : List Job) (lines : List LaneSender)
     → IsOutlet run unsent lines
-    → IsLast publisher subject echo unsent
-    → IsLast publisher subject echo (jobs_handed run unsent lines)
-last_handed publisher subject echo run unsent lines i last =
+    → IsLast publisher subject echo queues unsent
+    → IsLast publisher subject echo queues (jobs_handed run unsent lines)
+last_handed publisher subject echo queues run unsent lines i last =
     let within = slice_get_within unsent (length unsent - 1) last.last last.stands in
     record {
       last = last.last;
@@ -273,7 +275,22 @@ last_handed publisher subject echo run unsent lines i last =
       subject_same = last.subject_same;
       publisher_same = last.publisher_same;
       echo_same = last.echo_same;
+      queues_same = last.queues_same;
     }
+
+-- what is true of its queue names is so of a copy of them, where there is one
+pub shared_names : {E : Type 0} (P : List (List ℕ) → Type 0) (told names : List (List ℕ))
+    (copy : Result (List (List ℕ)) E) (given : Option (List (List ℕ)))
+    → given ≡ result_ok copy
+    → IfOk copy (λ queues. queues ≡ told)
+    → told ≡ names
+    → P names
+    → IfSome given P
+shared_names P told names (Ok queues) given is same names_are holds =
+    subst (λ o. IfSome o P) (sym {A = Option (List (List ℕ))} is)
+    (subst P (sym {A = List (List ℕ)} (same ∙ names_are)) holds)
+shared_names P told names (Err e) given is same names_are holds =
+    subst (λ o. IfSome o P) (sym {A = Option (List (List ℕ))} is) tt
 
 -- lanes to which nothing was pushed
 pub new_outlet : (lines : List LaneSender)

@@ -21,7 +21,7 @@ use Rattle.shard_core.specs.Held.{AreNumbered, HasTurns, IsNextTurn, IsPossible,
 
 -- ---- connections
 
-below_changed : (n : ℕ) (change : Backlog → Backlog) (conn : ℕ) (clients : List Client)
+pub below_changed : (n : ℕ) (change : Backlog → Backlog) (conn : ℕ) (clients : List Client)
     → All (λ (client : Client). client.number < n) clients
     → All (λ (client : Client). client.number < n) (clients_with_change change conn clients)
 below_changed n change conn [] below = below

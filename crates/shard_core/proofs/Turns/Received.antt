@@ -50,7 +50,7 @@ regrouped op subject blank sid behind rest = parts ∙ sym whole
 abbrev head_with : List ℕ → Option (List ℕ) → List ℕ
 head_with head headers = if is_some headers then head else drop 1 head
 
-spelt_with : (content : Content) (sid : List ℕ) (headers : Option (List ℕ))
+pub spelt_with : (content : Content) (sid : List ℕ) (headers : Option (List ℕ))
     → head_with (head_bytes content.subject sid) headers
     ++ (behind_sid content headers ++ (line_end ++ (body_bytes headers content.payload ++ line_end)))
     ≡ bytes_of (line_around (parts_with content headers) sid) (Some (body_bytes headers content.payload))

@@ -4,7 +4,7 @@ use Rattle.hub_core.specs.Hubs.{Hub}
 use Rattle.hub_core.specs.Publishing.{next_id}
 use Rattle.hub_core.specs.Chosen.{IsPlanOf, publication_by}
 use Rattle.hub_core.specs.Serving.{ServesAlone}
-use Rattle.hub_core.proofs.Choices.Alone.{serves_all, sends_none}
+use Rattle.hub_core.proofs.Choices.Local.{is_local, local_alone}
 use Rattle.hub_core.proofs.hub.Hub.plan_alone.Goals as goal
 
 pub returns : goal.returns
@@ -19,15 +19,16 @@ returns c = λ word.
       peers = c.self.inside.peers.items;
     } in
     let publication = c.args.publication.now in
+    let subject = publication.message.subject in
     let names = c.args.names.now in
     let p = publication_by c.args.conn publication word in
-    let serves = subst (λ (hub : Hub). ServesAlone hub.server hub.state publication.message.subject names)
-    (sym c.self.view_is) c.requires.names in
+    let serves = subst (λ (hub : Hub). ServesAlone hub.server hub.state subject names) (sym c.self.view_is)
+    c.requires.names in
+    let owed = is_local server state p names
+    (local_alone server state subject names c.self.invariant.listed c.self.invariant.sound serves) in
     let turn_is : c.args.turn ≡ c.self.inside.issued + 1 =
     c.requires.turn ∙ ap (λ (hub : Hub). hub.state.issued + 1) (sym c.self.view_is) in
-    let id_is = c.next_id.ensures ∙ ap (λ (hub : Hub). next_id hub.server hub.state) (sym c.self.view_is) in
-    let queues_is =
-    c.in_ok-queues.ensures ∙ serves_all server state p names c.self.invariant.listed c.self.invariant.sound serves in (
+    let id_is = c.next_id.ensures ∙ ap (λ (hub : Hub). next_id hub.server hub.state) (sym c.self.view_is) in (
       refl,
       subst (λ (hub : Hub).
           IsPlanOf hub.server hub.state p
@@ -41,16 +42,16 @@ returns c = λ word.
           })
           c.new.result.items)
           c.self.view_is (record {
-            job = λ k. record {
-              turn = turn_is k;
-              id = id_is k;
-              message = c.in_ok-message.ensures k;
-              publisher = Some c.args.conn;
-              echo = publication.echo;
-              queues = queues_is k;
-            };
-            frames =
-                c.new.ensures.items
-                ∙ sends_none server state p names c.self.invariant.listed c.self.invariant.sound serves;
+            job =
+                (λ k. record {
+                  turn = turn_is k;
+                  id = id_is k;
+                  message = c.in_ok-message.ensures k;
+                  publisher = Some c.args.conn;
+                  echo = publication.echo;
+                  queues = c.in_ok-queues.ensures k;
+                })
+                ∙ sym owed.job;
+            frames = c.new.ensures.items ∙ sym owed.frames;
           }),
     )

@@ -2,8 +2,8 @@ use Rattle.std.proofs.Common.{◌≡◌, ◌+◌, None, take, sym, ap, ◌∙◌
 use Rattle.claim_race.specs.Race.{busy_of}
 use Rattle.hub_core.specs.Chosen.{turn_refusal}
 use Rattle.hub_core.specs.Hubs.{Hub, hub_of_parts}
-use Rattle.hub_core.specs.Plain.{behind_plain}
-use Rattle.hub_core.proofs.Steps.Behind.{turn_behind_plain}
+use Rattle.hub_core.specs.Local.{behind_local}
+use Rattle.hub_core.proofs.Steps.Behind.{turn_behind_local}
 use Rattle.hub_core.proofs.hub.Hub.turns_free.Goals as goal
 
 pub returns : goal.returns
@@ -18,5 +18,5 @@ returns c = λ count low.
     ap (busy_of (i.issued + count))
     (λ k. take (sym c.shards-shards.ensures.same k) (sym c.as_slice.ensures.same k))
     ∙ c.turns_among.ensures.free count low in
-    subst (λ (hub : Hub). turn_refusal hub.server (behind_plain count hub.state) finished ≡ None) c.self.view_is
-    (turn_behind_plain i.server old.state finished count free (omega arith) (omega arith))
+    subst (λ (hub : Hub). turn_refusal hub.server (behind_local count hub.state) finished ≡ None) c.self.view_is
+    (turn_behind_local i.server old.state finished count free (omega arith) (omega arith))

@@ -1,4 +1,4 @@
-use Rattle.std.proofs.Common.{◌≡◌, ℕ, List, [], ◌∷◌, ◌++◌, not, sym, ap, subst, ◌∙◌, arith}
+use Rattle.std.proofs.Common.{◌≡◌, not, sym, ap, subst, ◌∙◌, arith}
 use Rattle.job_block.specs.Blocks.{Block}
 use Rattle.job_block.specs.Publications.{content_by}
 use Rattle.job_block.specs.declared.kept.KeptJob.{KeptJob}
@@ -15,22 +15,16 @@ invariant_of-self-2 c =
     let content = content_by c.args.publication.now in
     let items = c.put_job.new.kept.items in
     let goes_on = not c.is_empty-goes_on.result in
-    let last : KeptJob = kept_of c.args.origin [] goes_on c.in_ok-message.message in
+    let last : KeptJob = kept_of c.args.origin c.args.queues goes_on c.in_ok-message.message in
     let seen : IsSeen text fields.first_turn kept block = record {
       first = ap (λ (b : Block). b.first_turn) c.self.view_is;
       jobs = ap (λ (b : Block). b.jobs) c.self.view_is;
       is = c.self.invariant;
     } in
-    let put : items ≡ c.reserve.new.self.items ++ last ∷ [] =
-    c.put_job.ensures
-    ∙ ap
-    (λ (q : List (List ℕ)).
-    c.reserve.new.self.items ++ kept_of c.args.origin q goes_on c.in_ok-message.message ∷ [])
-    c.new.ensures in
     let more : IsMore text c.keep.new.text.items kept items last block content =
     put_next text c.keep.new.text.items fields.first_turn kept c.reserve.new.self.items items c.args.origin
-    goes_on c.in_ok-message.message block content seen c.in_ok-reserve.ensures.items put
-    c.in_ok-message.ensures.text c.in_ok-message.ensures.message
+    c.args.queues goes_on c.in_ok-message.message block content seen c.in_ok-reserve.ensures.items
+    c.put_job.ensures c.in_ok-message.ensures.text c.in_ok-message.ensures.message
     (λ goes.
     some_there c.reserve.new.self.items _ c.is_empty-goes_on.result goes c.is_empty-goes_on.ensures
     (omega (arith, c.reserve.new.self.ok.0))) c.requires.last
@@ -46,22 +40,16 @@ returns-clause-ok c =
     let content = content_by c.args.publication.now in
     let items = c.put_job.new.kept.items in
     let goes_on = not c.is_empty-goes_on.result in
-    let last : KeptJob = kept_of c.args.origin [] goes_on c.in_ok-message.message in
+    let last : KeptJob = kept_of c.args.origin c.args.queues goes_on c.in_ok-message.message in
     let seen : IsSeen text fields.first_turn kept block = record {
       first = ap (λ (b : Block). b.first_turn) c.self.view_is;
       jobs = ap (λ (b : Block). b.jobs) c.self.view_is;
       is = c.self.invariant;
     } in
-    let put : items ≡ c.reserve.new.self.items ++ last ∷ [] =
-    c.put_job.ensures
-    ∙ ap
-    (λ (q : List (List ℕ)).
-    c.reserve.new.self.items ++ kept_of c.args.origin q goes_on c.in_ok-message.message ∷ [])
-    c.new.ensures in
     let more : IsMore text c.keep.new.text.items kept items last block content =
     put_next text c.keep.new.text.items fields.first_turn kept c.reserve.new.self.items items c.args.origin
-    goes_on c.in_ok-message.message block content seen c.in_ok-reserve.ensures.items put
-    c.in_ok-message.ensures.text c.in_ok-message.ensures.message
+    c.args.queues goes_on c.in_ok-message.message block content seen c.in_ok-reserve.ensures.items
+    c.put_job.ensures c.in_ok-message.ensures.text c.in_ok-message.ensures.message
     (λ goes.
     some_there c.reserve.new.self.items _ c.is_empty-goes_on.result goes c.is_empty-goes_on.ensures
     (omega (arith, c.reserve.new.self.ok.0))) c.requires.last
@@ -74,6 +62,6 @@ keep-requires-clause-subject c =
     let text = fields.text.items in
     let same : c.as_slice.result.now ≡ fields.kept.items = c.as_slice.ensures.value ∙ c.in_ok-reserve.ensures.items in
     last_part text fields.first_turn c.as_slice.result.now c.args.self.now.jobs c.last_span-subject.result
-    c.args.origin.publisher (content_by c.args.publication.now).subject c.args.origin.echo
+    c.args.origin.publisher (content_by c.args.publication.now).subject c.args.origin.echo c.args.queues
     (ap (jobs_in text fields.first_turn) same ∙ ap (λ (b : Block). b.jobs) c.self.view_is)
     (subst (AreKept text) (sym same) c.self.invariant.each) c.last_span-subject.ensures c.requires.last

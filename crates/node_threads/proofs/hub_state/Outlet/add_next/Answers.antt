@@ -2,7 +2,7 @@ use Rattle.std.proofs.Common.{◌+◌, List, length, sym, ap, ◌∙◌}
 use Rattle.subj.specs.declared.jobs.Job.{Job}
 use Rattle.subj.specs.Messages.{Content}
 use Rattle.job_block.specs.Blocks.{IsLast}
-use Rattle.std.proofs.Common.{◌<◌, [], subst}
+use Rattle.std.proofs.Common.{◌<◌, subst}
 use Rattle.node_threads.proofs.Lanes.Outlets.{unsent_next, added, last_unsent}
 use Rattle.node_threads.proofs.hub_state.Outlet.add_next.Goals as goal
 
@@ -19,19 +19,21 @@ push_next-requires-clause-last g c some =
     let origin = c.args.origin in
     let same = c.begin_at.ensures.0 in
     subst (λ (jobs : List Job).
-    IsLast origin.publisher c.parts.result.subject.now origin.echo jobs) (sym same)
-    (subst (λ (content : Content). IsLast origin.publisher content.subject origin.echo s.unsent.jobs)
+    IsLast origin.publisher c.parts.result.subject.now origin.echo c.args.queues jobs)
+    (sym same)
+    (subst (λ (content : Content). IsLast origin.publisher content.subject origin.echo c.args.queues s.unsent.jobs)
     (sym c.parts.ensures.same)
-    (last_unsent origin.publisher c.args.publication.now.message.subject origin.echo s.run s.unsent.jobs s.lines.items
-    c.self.invariant
-    (subst (λ (o : List Job). IsLast origin.publisher c.args.publication.now.message.subject origin.echo o)
+    (last_unsent origin.publisher c.args.publication.now.message.subject origin.echo c.args.queues s.run s.unsent.jobs
+    s.lines.items c.self.invariant
+    (subst
+    (λ (o : List Job). IsLast origin.publisher c.args.publication.now.message.subject origin.echo c.args.queues o)
     (sym c.self.view_is) c.requires.last)
     (subst (λ (jobs : List Job). 0 < length jobs) same some)))
 
 pub invariant_of-self : goal.invariant_of-self
 invariant_of-self g c =
     let s = c.self.inside in
-    (added s.run s.lines.items s.unsent.jobs c.args.origin c.args.turn _ c.args.publication.now.message []
+    (added s.run s.lines.items s.unsent.jobs c.args.origin c.args.turn _ c.args.publication.now.message c.args.queues
     c.begin_at.new.block c.push_next.new.self c.push_next.result c.self.invariant
     (c.requires.turn ∙ ap (λ (o : List Job). length o + 1) (sym c.self.view_is)) c.begin_at.ensures.0
     c.begin_at.ensures.1 c.parts.ensures.same c.push_next.ensures.ok c.push_next.ensures.err).keeps

@@ -1,0 +1,90 @@
+//! A local publication: it owes the server's own shards a job, and nothing else.
+
+ghost use Rattle.std.specs.Prelude.{◌≡◌, ◌&&◌, true, [], IfSome};
+ghost use Rattle.interest.specs.Matches.{has_plain_match};
+ghost use Rattle.hub_core.specs.Choice.{is_eligible as eligible};
+ghost use Rattle.hub_core.specs.Local.{OwesLocalJob, wants_plain_from};
+
+use crate::hub::Hub;
+use crate::peers::Peer;
+use crate::publishing::{is_alone, is_eligible};
+use subj::{QueueName, QueueNames, ServerIdentity, Subject};
+
+/// Whether the peer is eligible, and has a plain key that matches the subject.
+fn wants_plain(server: &ServerIdentity, place: usize, peer: &Peer, subject: &Subject) -> bool
+    ensures { result
+        ≡ (eligible server.now place peer.now
+        && has_plain_match subject.now peer.now.heard.keys) }
+{
+    is_eligible(server, place, peer) && peer.heard.has_plain(subject)
+}
+
+/// Whether some eligible peer has a plain key that matches the subject. Takes no memory.
+fn is_wanted_elsewhere(server: &ServerIdentity, peers: &[Peer], subject: &Subject) -> bool
+    ensures { result ≡ wants_plain_from server.now subject.now 0 peers.now }
+{
+    for (place, peer) in peers.iter().enumerate() {
+        if wants_plain(server, place, peer, subject) {
+            return true;
+        }
+    }
+    false
+}
+
+/// Whether it is the same queue name.
+fn is_same(a: &QueueName, b: &QueueName) -> bool
+    ensures { result ≡ true → a.now ≡ b.now }
+{
+    a.bytes() == b.bytes()
+}
+
+/// Whether these are the same queue names.
+fn are_same(a: &[QueueName], b: &[QueueName]) -> bool
+    ensures { result ≡ true → a.now ≡ b.now }
+{
+    if a.len() != b.len() {
+        return false;
+    }
+    for place in 0..a.len() {
+        if !is_same(&a[place], &b[place]) {
+            return false;
+        }
+    }
+    true
+}
+
+impl Hub {
+    /// The queue names that want the subject, where they are in mind and no peer is eligible: the server serves them all itself. It is not
+    /// noted that they were asked for.
+    #[tactic(auto, using(crate::proofs::Choices::Local::local_alone))]
+    fn names_known(&self, subject: &Subject) -> Option<&QueueNames>
+        ensures { IfSome result (λ names.
+            OwesLocalJob self.now.server self.now.state subject.now names.now) }
+    {
+        if !self.counts.is_queued() || !is_alone(&self.server, &self.peers) {
+            return None;
+        }
+        self.counts.names_known(subject)
+    }
+
+    /// Whether no queue name wants the subject, and no peer is owed a frame of a publication on it.
+    fn is_unwanted(&self, subject: &Subject) -> bool
+        ensures { result ≡ true → OwesLocalJob self.now.server self.now.state subject.now [] }
+    {
+        !self.is_named(subject) && !is_wanted_elsewhere(&self.server, &self.peers, subject)
+    }
+
+    /// Whether a publication on this subject owes the server's own shards a job with just these queue names, and nothing else: just they want
+    /// it, the server serves each of them itself, and no peer is owed a frame. Of names that are not in mind it is told only where there are
+    /// none. Takes no memory.
+    pub fn owes_local_job(&self, subject: &Subject, queues: &QueueNames) -> bool
+        ensures { result ≡ true
+            → OwesLocalJob self.now.server self.now.state subject.now queues.now }
+    {
+        let queues = queues.as_slice();
+        if let Some(names) = self.names_known(subject) {
+            return are_same(names.as_slice(), queues);
+        }
+        queues.is_empty() && self.is_unwanted(subject)
+    }
+}

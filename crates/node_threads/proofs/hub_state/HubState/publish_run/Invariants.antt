@@ -1,5 +1,0 @@
-use Rattle.node_threads.proofs.Hubs.Running.{IsRunning}
-use Rattle.node_threads.proofs.hub_state.HubState.publish_run.Given as goal
-
-abbrev pub invariant-loop-count : goal.invariant-loop-count
-invariant-loop-count g l = IsRunning g.N.NodeName.race.shards l.fn.conn l.count l.fn.run l.run l.fn.self l.self
