@@ -21,7 +21,7 @@
 //! - Bytes are written as text in which `\r`, `\n` and `\\` are CR, LF and a backslash, and `\xHH` is any other byte.
 //! - Empty lines are passed over, and lines that begin with `#`.
 //!
-//! In reading order: `lines` cuts a line, `words` its arguments, `calls` the name of a call, `texts` reads bytes and tells answers, `values`
+//! In reading order: `lines` cuts a line, `words` its arguments and what stands in tables, `calls` the name of a call, `texts` reads bytes and tells answers, `values`
 //! reads names, messages and servers, and `playing` plays the files.
 #![tactic(auto)]
 
@@ -34,12 +34,9 @@ mod words;
 
 pub use calls::{Call, call_of, push_line};
 pub use playing::{Rig, play};
-pub use texts::{
-    bytes_of, push_shown, put, shown, tell, tell_bytes, tell_choice, tell_number, tell_refusal,
-    tell_whether, text, told, yes_or_no,
-};
+pub use texts::{Answer, bytes_of, put, shown, tell, tell_number, text, yes_or_no};
 pub use values::{
     Life, headed_message_of, key_in, key_of, life_in, life_of, message_of, message_with,
-    pattern_of, payload_of, push_key, queue_of, queues_of, server_of, sid_of, subject_of,
+    pattern_of, payload_of, queue_of, queues_of, server_of, sid_of, subject_of,
 };
-pub use words::{Words, number};
+pub use words::{Words, named, number};

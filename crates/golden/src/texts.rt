@@ -4,7 +4,7 @@ ghost use Rattle.std.specs.Prelude.{◌<◌};
 
 use crate::words::number;
 use std::alloc::{AllocError, Global};
-use std::fmt::Write;
+use std::fmt::{Display, Write};
 
 /// The text with each `<<TEXT*N>>` written out.
 pub fn written_out(alloc: Global, text: &str) -> Result<String, AllocError> {
@@ -80,16 +80,21 @@ pub fn bytes_of(alloc: Global, text: &str) -> Result<Vec<u8>, AllocError> {
     Ok(bytes)
 }
 
+/// Puts a byte as a file of cases writes it.
+fn push_byte(text: &mut String, byte: u8) -> Result<(), AllocError> {
+    match byte {
+        b'\r' => text.push_str("\\r"),
+        b'\n' => text.push_str("\\n"),
+        b'\\' => text.push_str("\\\\"),
+        b' '..=b'~' => text.push(char::from(byte)),
+        _ => Ok(write!(text, "\\x{byte:02x}")?),
+    }
+}
+
 /// Puts the bytes as a file of cases writes them.
 pub fn push_shown(text: &mut String, bytes: &[u8]) -> Result<(), AllocError> {
     for byte in bytes {
-        match *byte {
-            b'\r' => text.push_str("\\r")?,
-            b'\n' => text.push_str("\\n")?,
-            b'\\' => text.push_str("\\\\")?,
-            b' '..=b'~' => text.push(char::from(*byte))?,
-            byte => write!(text, "\\x{byte:02x}")?,
-        }
+        push_byte(text, *byte)?;
     }
     Ok(())
 }
@@ -116,25 +121,9 @@ pub fn put<T: Drop>(place: &mut T, value: T) {
     *place = value;
 }
 
-/// What was told, or `nothing` in place of an empty answer. Where a call could not be made, there is none of its name, or one of its words
-/// stands for nothing.
-pub fn told(alloc: Global, answer: String, is_told: Option<()>) -> Result<String, AllocError> {
-    match is_told {
-        Some(()) if answer.is_empty() => text(alloc, "nothing"),
-        Some(()) => Ok(answer),
-        None => text(alloc, "no such call or value"),
-    }
-}
-
 /// Tells this text.
 pub fn tell(answer: &mut String, text: &str) -> Option<()> {
     answer.push_str(text).ok()
-}
-
-/// Tells this text, and the bytes behind it.
-pub fn tell_bytes(answer: &mut String, before: &str, bytes: &[u8]) -> Option<()> {
-    answer.push_str(before).ok()?;
-    push_shown(answer, bytes).ok()
 }
 
 /// Tells this text, and a number behind it.
@@ -142,20 +131,131 @@ pub fn tell_number(answer: &mut String, before: &str, number: u64) -> Option<()>
     write!(answer, "{before}{number}").ok()
 }
 
-/// Tells the number of a refusal.
-pub fn tell_refusal(answer: &mut String, number: u16) -> Option<()> {
-    tell_number(answer, "refused ", u64::from(number))
+/// What is told to a call. Each part is told by a call that gives nothing where memory ran out, for this part or for one before it: of
+/// several parts only the last has to be asked.
+#[derive(Drop)]
+pub struct Answer {
+    text: String,
+    is_whole: bool,
 }
 
-/// Tells a number, or that there is none.
-pub fn tell_choice(answer: &mut String, number: Option<u64>) -> Option<()> {
-    match number {
-        None => tell(answer, "none"),
-        Some(number) => tell_number(answer, "", number),
+impl Answer {
+    /// Nothing is told.
+    pub fn new(alloc: Global) -> Answer {
+        Answer {
+            text: String::new(alloc),
+            is_whole: true,
+        }
     }
-}
 
-/// Answers a question.
-pub fn tell_whether(answer: &mut String, is_so: bool) -> Option<()> {
-    tell(answer, if is_so { "yes" } else { "no" })
+    /// Nothing is told any more.
+    pub fn clear(&mut self) {
+        self.text.clear();
+    }
+
+    /// Whether nothing is told.
+    pub fn is_empty(&self) -> bool {
+        self.text.is_empty()
+    }
+
+    /// What is told so far.
+    pub fn as_str(&self) -> &str {
+        self.text.as_str()
+    }
+
+    /// Gives nothing where memory ran out for a part.
+    pub fn so_far(&self) -> Option<()> {
+        if self.is_whole { Some(()) } else { None }
+    }
+
+    /// Notes whether there was memory for a part.
+    fn note(&mut self, is_told: bool) -> Option<()> {
+        self.is_whole = self.is_whole && is_told;
+        self.so_far()
+    }
+
+    /// Tells this text.
+    pub fn tell(&mut self, text: &str) -> Option<()> {
+        let is_told = self.text.push_str(text).is_ok();
+        self.note(is_told)
+    }
+
+    /// Tells this text, and the bytes behind it.
+    pub fn tell_bytes(&mut self, before: &str, bytes: &[u8]) -> Option<()> {
+        self.tell(before);
+        let is_told = push_shown(&mut self.text, bytes).is_ok();
+        self.note(is_told)
+    }
+
+    /// Tells this text, and a number behind it.
+    pub fn tell_number(&mut self, before: &str, number: u64) -> Option<()> {
+        let is_told = tell_number(&mut self.text, before, number).is_some();
+        self.note(is_told)
+    }
+
+    /// Tells this text, and a value behind it.
+    pub fn tell_value<T: Display>(&mut self, before: &str, value: &T) -> Option<()> {
+        self.tell(before);
+        let is_told = write!(self.text, "{value}").is_ok();
+        self.note(is_told)
+    }
+
+    /// Tells the number of a refusal.
+    pub fn tell_refusal(&mut self, number: u16) -> Option<()> {
+        self.tell_number("refused ", u64::from(number))
+    }
+
+    /// Tells this text and a number behind it, or that there is none.
+    pub fn tell_choice(&mut self, before: &str, number: Option<u64>) -> Option<()> {
+        match number {
+            None => self.tell("none"),
+            Some(number) => self.tell_number(before, number),
+        }
+    }
+
+    /// Tells this text and a number behind it, where there is one.
+    pub fn tell_any(&mut self, before: &str, number: Option<u64>) -> Option<()> {
+        match number {
+            None => self.so_far(),
+            Some(number) => self.tell_number(before, number),
+        }
+    }
+
+    /// Tells this text where something is so.
+    pub fn tell_if(&mut self, is_so: bool, text: &str) -> Option<()> {
+        self.tell(if is_so { text } else { "" })
+    }
+
+    /// Answers a question.
+    pub fn tell_whether(&mut self, is_so: bool) -> Option<()> {
+        self.tell(if is_so { "yes" } else { "no" })
+    }
+
+    /// All that was told, or this text in place of an empty answer. It is want of memory where a call could not be made.
+    pub fn told_or(
+        self,
+        alloc: Global,
+        empty: &str,
+        is_told: Option<()>,
+    ) -> Result<String, AllocError> {
+        if is_told.is_none() || !self.is_whole {
+            return Err(AllocError);
+        }
+        if self.text.is_empty() {
+            return text(alloc, empty);
+        }
+        Ok(self.text)
+    }
+
+    /// All that was told, or `nothing` in place of an empty answer. Where a call could not be made, there is none of its name, or one of its
+    /// words stands for nothing.
+    pub fn told(self, alloc: Global, is_told: Option<()>) -> Result<String, AllocError> {
+        if is_told.is_none() || !self.is_whole {
+            return text(alloc, "no such call or value");
+        }
+        if self.text.is_empty() {
+            return text(alloc, "nothing");
+        }
+        Ok(self.text)
+    }
 }

@@ -1,9 +1,9 @@
-//! Values that words stand for. There is none where a word stands for none, and where memory is short.
+//! Values that words stand for, and how they are told. There is none where a word stands for none, and where memory is short.
 
-use crate::texts::{bytes_of, push_shown};
+use crate::texts::{Answer, bytes_of};
 use crate::words::number;
 use bytes::Bytes;
-use std::alloc::{AllocError, Global};
+use std::alloc::Global;
 use subj::{
     Incarnation, Key, Message, NodeId, Pattern, QueueName, QueueNames, Reply, ServerIdentity, Sid,
     Subject,
@@ -53,18 +53,6 @@ pub fn key_of(alloc: Global, pattern: &str, queue: &str) -> Option<Key> {
 pub fn key_in(alloc: Global, word: &str) -> Option<Key> {
     let (pattern, queue) = word.split_once(' ').unwrap_or((word, ""));
     key_of(alloc, pattern, queue)
-}
-
-/// Puts a key as a word that it is read from.
-pub fn push_key(answer: &mut String, key: &Key) -> Result<(), AllocError> {
-    push_shown(answer, key.pattern.bytes())?;
-    match &key.queue {
-        None => Ok(()),
-        Some(queue) => {
-            answer.push_str(" ")?;
-            push_shown(answer, queue.bytes())
-        }
-    }
 }
 
 /// The names of queue groups that a text is, with blanks between them; none of them where they do not rise or are too many.
@@ -178,4 +166,22 @@ pub fn server_of(
 ) -> Option<ServerIdentity> {
     let inc = Incarnation::new(inc)?;
     ServerIdentity::new(nodes_of(alloc, names)?, place, inc, shards)
+}
+
+impl Answer {
+    /// Tells this text, and behind it a key as a word that it is read from.
+    pub fn tell_key(&mut self, before: &str, key: &Key) -> Option<()> {
+        self.tell_bytes(before, key.pattern.bytes());
+        match &key.queue {
+            None => self.so_far(),
+            Some(queue) => self.tell_bytes(" ", queue.bytes()),
+        }
+    }
+
+    /// Tells this text, and behind it the name of a server and the number of its life.
+    pub fn tell_life(&mut self, before: &str, name: NodeId, inc: Incarnation) -> Option<()> {
+        self.tell(before);
+        self.tell(name.text());
+        self.tell_number(" ", inc.get())
+    }
 }

@@ -22,3 +22,13 @@ impl<'a> Words<'a> {
 pub fn number(word: &str) -> u64 {
     word.parse().unwrap_or(0)
 }
+
+/// What stands behind this name in a table.
+pub fn named<T: Copy>(table: &[(&'static str, T)], name: &str) -> Option<T> {
+    for (other, value) in table {
+        if *other == name {
+            return Some(*value);
+        }
+    }
+    None
+}

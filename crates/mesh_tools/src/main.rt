@@ -30,19 +30,16 @@ fn run_match<R: Print + Eprint + Alloc<A = Global>>(rt: &R, pattern: &str, subje
     report(rt, ended)
 }
 
-/// Plays a script.
-fn run_script<R: Input + Print + Eprint + Alloc<A = Global>>(rt: &R) -> u8 {
+/// Plays a script. For an audit, writes what was published, subscribed and placed behind its text.
+fn run_script<R: Input + Print + Eprint + Alloc<A = Global>>(rt: &R, audit: bool) -> u8 {
+    let alloc = rt.alloc();
     let mut source = Raw::new(rt.reader());
     let mut sink = Raw::new(io::writer(rt));
-    let ended = script_run::<TrieTable, CellsRace, _, _>(rt.alloc(), &mut source, &mut sink);
-    report(rt, ended)
-}
-
-/// Plays a script, and writes what was published, subscribed and placed behind its text.
-fn run_script_listing<R: Input + Print + Eprint + Alloc<A = Global>>(rt: &R) -> u8 {
-    let mut source = Raw::new(rt.reader());
-    let mut sink = Raw::new(io::writer(rt));
-    let ended = script_audit_run::<TrieTable, CellsRace, _, _>(rt.alloc(), &mut source, &mut sink);
+    let ended = if audit {
+        script_audit_run::<TrieTable, CellsRace, _, _>(alloc, &mut source, &mut sink)
+    } else {
+        script_run::<TrieTable, CellsRace, _, _>(alloc, &mut source, &mut sink)
+    };
     report(rt, ended)
 }
 
@@ -58,8 +55,7 @@ fn run_audit<R: Input + Print + Eprint + Alloc<A = Global>>(rt: &R) -> u8 {
 fn run<R: Input + Print + Eprint + Alloc<A = Global>>(rt: &R, words: &[String]) -> u8 {
     match command_of(rt.alloc(), words) {
         Ok(Command::Match { pattern, subject }) => run_match(rt, pattern, subject),
-        Ok(Command::Script { audit: false }) => run_script(rt),
-        Ok(Command::Script { audit: true }) => run_script_listing(rt),
+        Ok(Command::Script { audit }) => run_script(rt, audit),
         Ok(Command::Audit) => run_audit(rt),
         Ok(
             Command::Pipe

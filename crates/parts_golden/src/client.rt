@@ -1,17 +1,12 @@
 //! Calls of what a client and its server tell each other: refusals, lines of clients, frames of the server, and what a connection asks.
 
-use crate::names::named;
 use client_conn::{ClientAction, Conn, Refusal};
 use client_frames::{
     ClientLine, Delivery, ErrText, InfoData, LineFault, MessageLines, Options, PubHead, ReplyFrame,
     ServerFrame, ServerInfo, SharedTexts, decode_line, encode, info_text, message_line, reply_line,
 };
-use golden::{
-    Words, bytes_of, life_in, message_with, number, push_key, push_shown, put, sid_of, tell,
-    tell_bytes, tell_number, tell_refusal,
-};
+use golden::{Answer, Words, bytes_of, life_in, message_with, named, number, put, sid_of};
 use std::alloc::Global;
-use std::fmt::Write;
 use subj::{ConnId, Failure, HostText, Key, Message, Pattern, Pub, QueueName, Reply, Sid};
 use wire_cut::CutFault;
 
@@ -36,33 +31,28 @@ static TEXTS: [(&str, ErrText); 11] = [
     ("NumbersSpent", ErrText::NumbersSpent),
 ];
 
-/// The text of this name.
-fn err_text(name: &str) -> Option<ErrText> {
-    named(&TEXTS, name)
-}
-
 /// Tells the line of a text, and whether the connection ends behind it.
-fn text_told(answer: &mut String, told: ErrText) -> Option<()> {
+fn text_told(answer: &mut Answer, told: ErrText) -> Option<()> {
     let before = if told.closes() { "closes: " } else { "stays: " };
-    tell_bytes(answer, before, told.line())
+    answer.tell_bytes(before, told.line())
 }
 
 /// Tells the number of a refused line, and what the client is told.
-fn line_fault(answer: &mut String, fault: LineFault) -> Option<()> {
-    tell_number(answer, "", u64::from(fault.number()))?;
-    tell_bytes(answer, ", ", ErrText::of_line(fault).line())
+fn line_fault(answer: &mut Answer, fault: LineFault) -> Option<()> {
+    answer.tell_number("", u64::from(fault.number()));
+    answer.tell_bytes(", ", ErrText::of_line(fault).line())
 }
 
 /// Tells the number of the cause for which bytes are no line or no payload, and what the client is told.
-fn cut_fault(answer: &mut String, fault: CutFault) -> Option<()> {
-    tell_number(answer, "", u64::from(fault.number()))?;
-    tell_bytes(answer, ", ", ErrText::of_cut(fault).line())
+fn cut_fault(answer: &mut Answer, fault: CutFault) -> Option<()> {
+    answer.tell_number("", u64::from(fault.number()));
+    answer.tell_bytes(", ", ErrText::of_cut(fault).line())
 }
 
 /// Makes a call of the fault or the text of this name.
-pub fn fault_call(answer: &mut String, call: &str, name: &str) -> Option<()> {
+pub fn fault_call(answer: &mut Answer, call: &str, name: &str) -> Option<()> {
     match name {
-        _ if call == "text" => text_told(answer, err_text(name)?),
+        _ if call == "text" => text_told(answer, named(&TEXTS, name)?),
         "UnknownOp" => line_fault(answer, LineFault::UnknownOp),
         "BadArgs" => line_fault(answer, LineFault::BadArgs),
         "BadJson" => line_fault(answer, LineFault::BadJson),
@@ -101,7 +91,7 @@ pub fn reply_of(alloc: Global, word: &str) -> Option<ReplyFrame> {
     match kind {
         "pong" => Some(ReplyFrame::Pong),
         "ok" => Some(ReplyFrame::Ok),
-        "err" => Some(ReplyFrame::Err(err_text(rest)?)),
+        "err" => Some(ReplyFrame::Err(named(&TEXTS, rest)?)),
         "info" => Some(ReplyFrame::Info(info_of(alloc, rest)?)),
         _ => None,
     }
@@ -119,20 +109,20 @@ fn encode_behind(out: &mut Vec<u8>, frame: &ServerFrame) -> Option<()> {
 }
 
 /// Tells the bytes of a frame behind other ones.
-fn frame_told(answer: &mut String, alloc: Global, frame: &ServerFrame) -> Option<()> {
+fn frame_told(answer: &mut Answer, alloc: Global, frame: &ServerFrame) -> Option<()> {
     let mut out = Vec::from_slice(alloc, b"before ").ok()?;
     encode_behind(&mut out, frame)?;
-    push_shown(answer, &out).ok()
+    answer.tell_bytes("", &out)
 }
 
 /// Tells the line of a reply.
-fn line_of_reply(answer: &mut String, alloc: Global, reply: &ReplyFrame) -> Option<()> {
+fn line_of_reply(answer: &mut Answer, alloc: Global, reply: &ReplyFrame) -> Option<()> {
     let line = reply_line(alloc, reply).ok()?;
-    push_shown(answer, &line).ok()
+    answer.tell_bytes("", &line)
 }
 
 /// Makes a call of a reply.
-pub fn reply_call(answer: &mut String, alloc: Global, call: &str, word: &str) -> Option<()> {
+pub fn reply_call(answer: &mut Answer, alloc: Global, call: &str, word: &str) -> Option<()> {
     let reply = reply_of(alloc, word)?;
     match call {
         "line" => line_of_reply(answer, alloc, &reply),
@@ -143,9 +133,9 @@ pub fn reply_call(answer: &mut String, alloc: Global, call: &str, word: &str) ->
 }
 
 /// Tells the text of what a server tells of itself.
-pub fn info_call(answer: &mut String, alloc: Global, word: &str) -> Option<()> {
+pub fn info_call(answer: &mut Answer, alloc: Global, word: &str) -> Option<()> {
     let told = info_text(alloc, &info_of(alloc, word)?).ok()?;
-    tell(answer, told.as_str())
+    answer.tell(told.as_str())
 }
 
 /// The message that the words are: its subject, its reply and its payload, and its header block, which the fifth is.
@@ -165,28 +155,23 @@ fn delivery_of(alloc: Global, words: &Words<'_>) -> Option<Delivery> {
 }
 
 /// Tells the line of a message, made for this subscription alone.
-fn lone_line(answer: &mut String, alloc: Global, delivery: &Delivery) -> Option<()> {
+fn lone_line(answer: &mut Answer, alloc: Global, delivery: &Delivery) -> Option<()> {
     let (message, takes_headers) = (&delivery.message, delivery.takes_headers);
     let line = message_line(alloc, message, &delivery.sid, takes_headers).ok()?;
-    push_shown(answer, &line).ok()
+    answer.tell_bytes("", &line)
 }
 
 /// Tells the line of a message, of those made for all its subscriptions.
-fn shared_line(answer: &mut String, alloc: Global, delivery: &Delivery) -> Option<()> {
+fn shared_line(answer: &mut Answer, alloc: Global, delivery: &Delivery) -> Option<()> {
     let lines = MessageLines::new(alloc, &delivery.message).ok()?;
     let line = lines.line(&delivery.sid, delivery.takes_headers).ok()?;
-    push_shown(answer, &line).ok()
-}
-
-/// Tells the bytes of a message as a frame.
-fn delivery_told(answer: &mut String, alloc: Global, delivery: Delivery) -> Option<()> {
-    frame_told(answer, alloc, &ServerFrame::Msg(delivery))
+    answer.tell_bytes("", &line)
 }
 
 /// Makes a call of the delivery of a message: its subject, its reply, its payload, the subscription, perhaps a header block, and whether
 /// the client takes headers.
 pub fn delivery_call(
-    answer: &mut String,
+    answer: &mut Answer,
     alloc: Global,
     call: &str,
     words: &Words<'_>,
@@ -195,90 +180,80 @@ pub fn delivery_call(
     match call {
         "line" => lone_line(answer, alloc, &delivery),
         "shared_line" => shared_line(answer, alloc, &delivery),
-        "bytes" => delivery_told(answer, alloc, delivery),
+        "bytes" => frame_told(answer, alloc, &ServerFrame::Msg(delivery)),
         _ => None,
     }
 }
 
-/// Whether an option is on, in a word.
-fn on_or_off(option: bool) -> &'static str {
-    if option { "on" } else { "off" }
+/// Tells this text, and whether an option is on.
+fn option_told(answer: &mut Answer, before: &str, option: bool) -> Option<()> {
+    answer.tell(before);
+    answer.tell(if option { "on" } else { "off" })
 }
 
 /// Tells where an answer is awaited. A bar stands where it is nowhere.
-fn reply_place_told(answer: &mut String, reply: Option<&Reply>) -> Option<()> {
+fn reply_place_told(answer: &mut Answer, reply: Option<&Reply>) -> Option<()> {
     match reply {
-        None => tell(answer, " |"),
-        Some(reply) => tell_bytes(answer, " ", reply.bytes()),
-    }
-}
-
-/// Tells the size of a header block, where there is one.
-fn headers_told(answer: &mut String, headers: Option<u64>) -> Option<()> {
-    match headers {
-        None => Some(()),
-        Some(size) => tell_number(answer, " ", size),
+        None => answer.tell(" |"),
+        Some(reply) => answer.tell_bytes(" ", reply.bytes()),
     }
 }
 
 /// Tells what is published, but for its headers and its payload.
-fn head_told(answer: &mut String, head: &PubHead) -> Option<()> {
+fn head_told(answer: &mut Answer, head: &PubHead) -> Option<()> {
     let operation = if head.headers.is_some() {
         "hpub "
     } else {
         "pub "
     };
-    tell_bytes(answer, operation, head.subject.bytes())?;
-    reply_place_told(answer, head.reply.as_ref())?;
-    headers_told(answer, head.headers)?;
-    tell_number(answer, " ", head.size)
+    answer.tell_bytes(operation, head.subject.bytes());
+    reply_place_told(answer, head.reply.as_ref());
+    answer.tell_any(" ", head.headers);
+    answer.tell_number(" ", head.size)
 }
 
 /// Tells what is subscribed to. A bar stands where there is no queue name.
 fn sub_told<'a>(
-    answer: &mut String,
+    answer: &mut Answer,
     pattern: &'a Pattern,
     queue: &'a Option<QueueName>,
     sid: &'a Sid,
 ) -> Option<()> {
-    tell_bytes(answer, "sub ", pattern.bytes())?;
+    answer.tell_bytes("sub ", pattern.bytes());
     match queue {
-        None => tell(answer, " |")?,
-        Some(queue) => tell_bytes(answer, " ", queue.bytes())?,
-    }
-    tell_bytes(answer, " ", sid.bytes())
+        None => answer.tell(" |"),
+        Some(queue) => answer.tell_bytes(" ", queue.bytes()),
+    };
+    answer.tell_bytes(" ", sid.bytes())
 }
 
 /// Tells the end of a subscription, now or behind so many messages.
-fn unsub_told(answer: &mut String, before: &str, sid: &Sid, max: Option<u64>) -> Option<()> {
-    tell_bytes(answer, before, sid.bytes())?;
-    match max {
-        None => Some(()),
-        Some(max) => tell_number(answer, " ", max),
-    }
+fn unsub_told(answer: &mut Answer, before: &str, sid: &Sid, max: Option<u64>) -> Option<()> {
+    answer.tell_bytes(before, sid.bytes());
+    answer.tell_any(" ", max)
 }
 
 /// Tells which options are on.
-fn options_told(answer: &mut String, options: &Options) -> Option<()> {
-    let (verbose, echo) = (on_or_off(options.verbose), on_or_off(options.echo));
-    let headers = on_or_off(options.headers);
-    write!(answer, "connect {verbose} {echo} {headers}").ok()
+fn options_told(answer: &mut Answer, options: &Options) -> Option<()> {
+    option_told(answer, "connect ", options.verbose);
+    option_told(answer, " ", options.echo);
+    option_told(answer, " ", options.headers)
 }
 
 /// Tells what a line asks for.
-fn line_told(answer: &mut String, line: &ClientLine) -> Option<()> {
+fn line_told(answer: &mut Answer, line: &ClientLine) -> Option<()> {
     match line {
         ClientLine::Connect(options) => options_told(answer, options),
         ClientLine::Pub(head) => head_told(answer, head),
-        ClientLine::PubBad { size } => tell_number(answer, "bad ", *size),
+        ClientLine::PubBad { size } => answer.tell_number("bad ", *size),
         ClientLine::Sub {
             pattern,
             queue,
             sid,
         } => sub_told(answer, pattern, queue, sid),
         ClientLine::Unsub { sid, max } => unsub_told(answer, "unsub ", sid, *max),
-        ClientLine::Ping => tell(answer, "ping"),
-        ClientLine::Pong => tell(answer, "pong"),
+        ClientLine::Ping => answer.tell("ping"),
+        ClientLine::Pong => answer.tell("pong"),
     }
 }
 
@@ -290,24 +265,24 @@ fn keep_subject(texts: &mut SharedTexts, line: ClientLine) {
 }
 
 /// Tells what a line asks for, which is then used up.
-fn use_line(answer: &mut String, texts: &mut SharedTexts, line: ClientLine) -> Option<()> {
+fn use_line(answer: &mut Answer, texts: &mut SharedTexts, line: ClientLine) -> Option<()> {
     let told = line_told(answer, &line);
     keep_subject(texts, line);
     told
 }
 
 /// Tells what the bytes ask for, or the number of the refusal.
-fn read(answer: &mut String, texts: &mut SharedTexts, bytes: &[u8]) -> Option<()> {
+fn read(answer: &mut Answer, texts: &mut SharedTexts, bytes: &[u8]) -> Option<()> {
     match decode_line(texts, bytes) {
         Ok(line) => use_line(answer, texts, line),
-        Err(Failure::Refused(fault)) => tell_refusal(answer, fault.number()),
+        Err(Failure::Refused(fault)) => answer.tell_refusal(fault.number()),
         Err(Failure::OutOfMemory) => None,
     }
 }
 
 /// Reads the line that a word is, of a client with these texts.
 fn read_word(
-    answer: &mut String,
+    answer: &mut Answer,
     texts: &mut SharedTexts,
     alloc: Global,
     word: &str,
@@ -318,7 +293,7 @@ fn read_word(
 
 /// Makes a call of a line, of a client of its own or of the one whose texts these are.
 pub fn line_call(
-    answer: &mut String,
+    answer: &mut Answer,
     texts: &mut SharedTexts,
     alloc: Global,
     call: &str,
@@ -332,50 +307,52 @@ pub fn line_call(
 }
 
 /// Tells the line that a client is to be told; of the first one its operation.
-fn reply_told(answer: &mut String, reply: &ReplyFrame) -> Option<()> {
+fn reply_told(answer: &mut Answer, reply: &ReplyFrame) -> Option<()> {
     match reply {
-        ReplyFrame::Info(_) => tell(answer, "INFO"),
-        ReplyFrame::Ok => tell(answer, "+OK"),
-        ReplyFrame::Pong => tell(answer, "PONG"),
-        ReplyFrame::Err(told) => tell_bytes(answer, "", told.line()),
+        ReplyFrame::Info(_) => answer.tell("INFO"),
+        ReplyFrame::Ok => answer.tell("+OK"),
+        ReplyFrame::Pong => answer.tell("PONG"),
+        ReplyFrame::Err(told) => answer.tell_bytes("", told.line()),
     }
 }
 
 /// Tells of a subscription to be opened.
-fn subscription_told(answer: &mut String, key: &Key, sid: &Sid) -> Option<()> {
-    tell(answer, "subscribe ")?;
-    push_key(answer, key).ok()?;
-    tell_bytes(answer, " ", sid.bytes())
+fn subscription_told(answer: &mut Answer, key: &Key, sid: &Sid) -> Option<()> {
+    answer.tell_key("subscribe ", key);
+    answer.tell_bytes(" ", sid.bytes())
 }
 
 /// Tells where an answer to a message is awaited, its header block and its payload, where it has such a block.
-fn headed_told(answer: &mut String, message: &Message) -> Option<()> {
+fn headed_told(answer: &mut Answer, message: &Message) -> Option<()> {
     let Some(block) = message.headers() else {
         return Some(());
     };
-    reply_place_told(answer, message.reply())?;
-    tell_bytes(answer, " [", block)?;
-    tell_bytes(answer, "] [", message.payload())?;
-    tell(answer, "]")
+    reply_place_told(answer, message.reply());
+    answer.tell_bytes(" [", block);
+    answer.tell_bytes("] [", message.payload());
+    answer.tell("]")
 }
 
 /// Tells of a publication to be made, and whether the client's own subscriptions may get it.
-fn publication_told(answer: &mut String, publication: &Pub) -> Option<()> {
+fn publication_told(answer: &mut Answer, publication: &Pub) -> Option<()> {
     let what = if publication.echo {
         "publish "
     } else {
         "publish to others "
     };
-    tell_bytes(answer, what, publication.message.subject().bytes())?;
+    answer.tell_bytes(what, publication.message.subject().bytes());
     headed_told(answer, &publication.message)
 }
 
-/// Tells what is asked.
-fn ask_told(answer: &mut String, ask: &ClientAction) -> Option<()> {
+/// Tells what is asked, where anything is.
+fn ask_told(answer: &mut Answer, ask: Option<&ClientAction>) -> Option<()> {
+    let Some(ask) = ask else {
+        return answer.tell("nothing");
+    };
     match ask {
         ClientAction::Reply(reply) => reply_told(answer, reply),
-        ClientAction::SetHeaders(on) => write!(answer, "headers {}", on_or_off(*on)).ok(),
-        ClientAction::Shut(told) => tell_bytes(answer, "shut ", told.line()),
+        ClientAction::SetHeaders(on) => option_told(answer, "headers ", *on),
+        ClientAction::Shut(told) => answer.tell_bytes("shut ", told.line()),
         ClientAction::Subscribe { key, sid } => subscription_told(answer, key, sid),
         ClientAction::Unsubscribe { sid, max } => unsub_told(answer, "unsubscribe ", sid, *max),
         ClientAction::Publish(publication) => publication_told(answer, publication),
@@ -400,26 +377,18 @@ fn answer_in(word: &str) -> Result<(), Refusal> {
     }
 }
 
-/// Tells what is asked, where anything is.
-fn told_if_asked(answer: &mut String, ask: Option<&ClientAction>) -> Option<()> {
-    match ask {
-        None => tell(answer, "nothing"),
-        Some(ask) => ask_told(answer, ask),
-    }
-}
-
 /// Answers the next ask, and tells it; where there is none, the answer is given all the same.
-fn ask(answer: &mut String, conn: &mut Conn, word: &str) -> Option<()> {
-    told_if_asked(answer, conn.next().ok()?)?;
+fn ask(answer: &mut Answer, conn: &mut Conn, word: &str) -> Option<()> {
+    ask_told(answer, conn.next().ok()?);
     conn.answer(answer_in(word));
     Some(())
 }
 
 /// Feeds the connection.
-fn feed(answer: &mut String, conn: &mut Conn, alloc: Global, word: &str) -> Option<()> {
+fn feed(answer: &mut Answer, conn: &mut Conn, alloc: Global, word: &str) -> Option<()> {
     let bytes = bytes_of(alloc, word).ok()?;
     conn.feed(&bytes).ok()?;
-    tell(answer, "ok")
+    answer.tell("ok")
 }
 
 /// Whether the client is to be told who serves it; it is told then.
@@ -444,18 +413,20 @@ fn feed_unasked(conn: &mut Conn, byte: u8) -> Option<bool> {
 }
 
 /// Tells how many beginnings of a stream there are, if nothing is asked behind any of them; else the first behind which something is.
-fn beginnings(answer: &mut String, conn: &mut Conn, stream: &[u8]) -> Option<()> {
+fn beginnings(answer: &mut Answer, conn: &mut Conn, stream: &[u8]) -> Option<()> {
     for (len, byte) in stream.iter().enumerate() {
         if !feed_unasked(conn, *byte)? {
-            return write!(answer, "asks behind {len} bytes").ok();
+            answer.tell_number("asks behind ", len as u64);
+            return answer.tell(" bytes");
         }
     }
-    write!(answer, "{} beginnings, nothing asked", stream.len()).ok()
+    answer.tell_number("", stream.len() as u64);
+    answer.tell(" beginnings, nothing asked")
 }
 
 /// The same of a stream that a client sends once it is told who serves it.
 fn greeted_beginnings(
-    answer: &mut String,
+    answer: &mut Answer,
     conn: &mut Conn,
     alloc: Global,
     word: &str,
@@ -468,21 +439,21 @@ fn greeted_beginnings(
 }
 
 /// The same of a stream on a connection of its own.
-fn first_beginnings(answer: &mut String, alloc: Global, word: &str) -> Option<()> {
+fn first_beginnings(answer: &mut Answer, alloc: Global, word: &str) -> Option<()> {
     let told = info_of(alloc, "n1 1, 1, 0")?;
     let mut conn = Conn::new(alloc, told);
     greeted_beginnings(answer, &mut conn, alloc, word)
 }
 
 /// A connection of a client that is told this first takes the place of the one that stands.
-fn renew(answer: &mut String, conn: &mut Option<Conn>, alloc: Global, word: &str) -> Option<()> {
+fn renew(answer: &mut Answer, conn: &mut Option<Conn>, alloc: Global, word: &str) -> Option<()> {
     put(conn, Some(Conn::new(alloc, info_of(alloc, word)?)));
-    tell(answer, "ok")
+    answer.tell("ok")
 }
 
 /// Makes a call of the connection.
 pub fn conn_call(
-    answer: &mut String,
+    answer: &mut Answer,
     conn: &mut Option<Conn>,
     alloc: Global,
     call: &str,

@@ -1,12 +1,9 @@
 //! Calls of entries and outboxes.
 
-use crate::guarded::{Outboxes, Settled, Staged};
-use golden::{
-    Words, bytes_of, life_of, payload_of, push_shown, put, queue_of, tell, tell_bytes, tell_whether,
-};
-use outbox::{Entry, Mode, Outbox, RunTails, Tag};
+use bytes::Bytes;
+use golden::{Answer, Words, bytes_of, life_of, payload_of, put, queue_of};
+use outbox::{Entry, LAST_LINE_TEXT, Mode, Outbox, RunTails, Tag};
 use std::alloc::Global;
-use std::fmt::Write;
 use subj::{MAX_PAYLOAD, OUTBOX_BYTES, PubId, SubId};
 
 /// The subscription that messages go to.
@@ -55,76 +52,74 @@ fn message_in(alloc: Global, words: &Words<'_>) -> Option<Entry> {
 }
 
 /// Tells the queue name of a message, or that there is none.
-fn mode_told(answer: &mut String, mode: &Mode) -> Option<()> {
+fn mode_told(answer: &mut Answer, mode: &Mode) -> Option<()> {
     match mode {
-        Mode::Plain => tell(answer, ", plain"),
-        Mode::Queue(name) => tell_bytes(answer, ", queue ", name.bytes()),
+        Mode::Plain => answer.tell(", plain"),
+        Mode::Queue(name) => answer.tell_bytes(", queue ", name.bytes()),
     }
 }
 
 /// Tells which publication goes to which subscription.
-fn route_told(answer: &mut String, id: &PubId, sub: &SubId) -> Option<()> {
-    let (name, inc, number) = (id.origin.text(), id.inc.get(), id.number);
-    write!(
-        answer,
-        "message {number} of {name} {inc} to {}.{}",
-        sub.shard, sub.serial
-    )
-    .ok()
+fn route_told(answer: &mut Answer, id: &PubId, sub: &SubId) -> Option<()> {
+    answer.tell_number("message ", id.number);
+    answer.tell_life(" of ", id.origin, id.inc);
+    answer.tell_number(" to ", sub.shard);
+    answer.tell_number(".", sub.serial)
 }
 
 /// Tells what an entry is.
-fn tag_told(answer: &mut String, tag: &Tag) -> Option<()> {
+fn tag_told(answer: &mut Answer, tag: &Tag) -> Option<()> {
     match tag {
-        Tag::Reply => tell(answer, "reply"),
+        Tag::Reply => answer.tell("reply"),
         Tag::Msg { id, sub, mode } => {
-            route_told(answer, id, sub)?;
+            route_told(answer, id, sub);
             mode_told(answer, mode)
         }
     }
 }
 
 /// Tells the bytes of an entry.
-pub fn entry_told(answer: &mut String, alloc: Global, entry: &Entry) -> Option<()> {
+pub fn entry_told(answer: &mut Answer, alloc: Global, entry: &Entry) -> Option<()> {
     let bytes = entry.bytes(alloc).ok()?;
-    push_shown(answer, &bytes).ok()
+    answer.tell_bytes("", &bytes)
 }
 
 /// Tells how long an entry is, and its bytes.
-fn written(answer: &mut String, alloc: Global, entry: &Entry) -> Option<()> {
-    write!(answer, "{}: ", entry.len()).ok()?;
+fn written(answer: &mut Answer, alloc: Global, entry: &Entry) -> Option<()> {
+    answer.tell_number("", entry.len() as u64);
+    answer.tell(": ");
     entry_told(answer, alloc, entry)
 }
 
 /// Tells what stands there once the entry was put behind these bytes.
-fn behind(answer: &mut String, alloc: Global, entry: &Entry, word: &str) -> Option<()> {
+fn behind(answer: &mut Answer, alloc: Global, entry: &Entry, word: &str) -> Option<()> {
     let mut bytes = bytes_of(alloc, word).ok()?;
     entry.append_to(&mut bytes).ok()?;
-    push_shown(answer, &bytes).ok()
+    answer.tell_bytes("", &bytes)
 }
 
 /// Tells what a copy of the tag is.
-fn tag_copy(answer: &mut String, alloc: Global, entry: &Entry) -> Option<()> {
+fn tag_copy(answer: &mut Answer, alloc: Global, entry: &Entry) -> Option<()> {
     let copy = entry.tag().try_clone(alloc).ok()?;
     tag_told(answer, &copy)
 }
 
 /// This entry stands from now on.
-fn made(answer: &mut String, place: &mut Option<Entry>, entry: Option<Entry>) -> Option<()> {
+fn made(answer: &mut Answer, place: &mut Option<Entry>, entry: Option<Entry>) -> Option<()> {
     let told = if entry.is_some() { "ok" } else { "no entry" };
     put(place, entry);
-    tell(answer, told)
+    answer.tell(told)
 }
 
 /// A copy stands in place of the entry.
-fn copied(answer: &mut String, place: &mut Option<Entry>, alloc: Global) -> Option<()> {
+fn copied(answer: &mut Answer, place: &mut Option<Entry>, alloc: Global) -> Option<()> {
     let copy = place.as_ref()?.try_clone(alloc).ok()?;
     made(answer, place, Some(copy))
 }
 
 /// Makes a call of the entry.
 pub fn entry_call(
-    answer: &mut String,
+    answer: &mut Answer,
     place: &mut Option<Entry>,
     alloc: Global,
     call: &str,
@@ -143,11 +138,12 @@ pub fn entry_call(
 }
 
 /// Tells how many entries there are, and the bytes of these of them.
-fn entries_told(answer: &mut String, alloc: Global, count: usize, entries: &[Entry]) -> Option<()> {
+fn entries_told(answer: &mut Answer, alloc: Global, count: usize, entries: &[Entry]) -> Option<()> {
     if count == 0 {
-        return tell(answer, "none");
+        return answer.tell("none");
     }
-    write!(answer, "{count}: ").ok()?;
+    answer.tell_number("", count as u64);
+    answer.tell(": ");
     for entry in entries {
         entry_told(answer, alloc, entry)?;
     }
@@ -155,7 +151,7 @@ fn entries_told(answer: &mut String, alloc: Global, count: usize, entries: &[Ent
 }
 
 /// Tells how many entries there are, and the bytes of all, or of the last one.
-pub fn taken(answer: &mut String, alloc: Global, entries: &[Entry], is_last: bool) -> Option<()> {
+pub fn taken(answer: &mut Answer, alloc: Global, entries: &[Entry], is_last: bool) -> Option<()> {
     let from = if is_last {
         entries.len().saturating_sub(1)
     } else {
@@ -164,21 +160,79 @@ pub fn taken(answer: &mut String, alloc: Global, entries: &[Entry], is_last: boo
     entries_told(answer, alloc, entries.len(), entries.get(from..)?)
 }
 
+/// An outbox. What is put is shown at once, or is staged until all of that is shown or taken back.
+#[derive(Drop)]
+pub struct Mailbox {
+    outbox: Outbox,
+    is_staging: bool,
+}
+
 /// Whether there was room.
-fn room_told(answer: &mut String, has_room: bool) -> Option<()> {
-    tell(answer, if has_room { "ok" } else { "no room" })
+fn room_told(answer: &mut Answer, has_room: bool) -> Option<()> {
+    answer.tell(if has_room { "ok" } else { "no room" })
 }
 
-/// Puts the entry, or stages it.
-fn put_entry(answer: &mut String, outboxes: &mut Outboxes, entry: Option<Entry>) -> Option<()> {
-    room_told(answer, outboxes.put(entry?).ok()?)
-}
+impl Mailbox {
+    /// Shows what was put, unless it is staged.
+    fn show(&mut self) {
+        if !self.is_staging {
+            self.outbox.commit();
+        }
+    }
 
-/// Puts a message by its parts.
-fn put_parts(answer: &mut String, settled: &mut Settled, alloc: Global, word: &str) -> Option<()> {
-    let id = publication_of(4, 9)?;
-    let payload = payload_of(alloc, word)?;
-    room_told(answer, settled.put_parts(id, SUB, &payload).ok()?)
+    /// Puts an entry.
+    fn put(&mut self, answer: &mut Answer, entry: Entry) -> Option<()> {
+        if !self.outbox.room(entry.len()) {
+            return room_told(answer, false);
+        }
+        self.outbox.stage(entry).ok()?;
+        self.show();
+        room_told(answer, true)
+    }
+
+    /// Puts a message by its parts: a line of 12 bytes, and this payload.
+    fn put_parts(&mut self, answer: &mut Answer, payload: &Bytes) -> Option<()> {
+        if payload.len() > MAX_PAYLOAD || !self.outbox.room(12 + payload.len() + 4) {
+            return room_told(answer, false);
+        }
+        let id = publication_of(4, 9)?;
+        self.outbox
+            .stage_message(id, SUB, Mode::Plain, b"MSG foo 1 ??", payload)
+            .ok()?;
+        self.show();
+        room_told(answer, true)
+    }
+
+    /// Puts a run by its head and its tails.
+    fn put_run(&mut self, answer: &mut Answer, head: &[u8], tails: &RunTails) -> Option<()> {
+        if !self.outbox.room_for_run(SUB, head, tails) {
+            return room_told(answer, false);
+        }
+        self.outbox.stage_run(SUB, head, tails).ok()?;
+        self.show();
+        room_told(answer, true)
+    }
+
+    /// Puts the last line as other entries are put, where it is short enough, and the first one.
+    fn put_last(&mut self, answer: &mut Answer, line: &[u8]) -> Option<()> {
+        if line.len() > LAST_LINE_TEXT || self.outbox.is_closing() {
+            return answer.tell_whether(false);
+        }
+        self.outbox.stage_last(line).ok()?;
+        self.show();
+        answer.tell_whether(true)
+    }
+
+    /// From now on what is put is staged; or what is staged is shown, or taken back.
+    fn turn(&mut self, answer: &mut Answer, call: &str) -> Option<()> {
+        match call {
+            "commit" => self.outbox.commit(),
+            "rollback" => self.outbox.rollback(),
+            _ => {}
+        }
+        self.is_staging = call == "stage";
+        answer.tell("ok")
+    }
 }
 
 /// Puts the tail of the next publication that n1 made in its fourth incarnation.
@@ -207,185 +261,126 @@ fn tails_of(alloc: Global, words: &Words<'_>) -> Option<RunTails> {
     Some(tails)
 }
 
-/// Puts a run by its head and its tails.
-fn put_run(
-    answer: &mut String,
-    outboxes: &mut Outboxes,
-    alloc: Global,
-    words: &Words<'_>,
-) -> Option<()> {
-    let tails = tails_of(alloc, words)?;
-    let head = bytes_of(alloc, words.at(0)).ok()?;
-    room_told(answer, outboxes.put_run(SUB, &head, &tails).ok()?)
+/// Tells whether there is room for a run, and whether it has messages.
+fn run_told(answer: &mut Answer, outbox: &Outbox, head: &[u8], tails: &RunTails) -> Option<()> {
+    answer.tell_whether(outbox.room_for_run(SUB, head, tails));
+    answer.tell_if(tails.is_empty(), ", empty")
 }
 
-/// Tells whether there is room for a run, and whether it has messages.
-fn room_for_run(
-    answer: &mut String,
-    outbox: &Outbox,
+/// Makes a call of a run: puts it, or tells whether there is room.
+fn run_call(
+    answer: &mut Answer,
+    mailbox: &mut Mailbox,
     alloc: Global,
+    call: &str,
     words: &Words<'_>,
 ) -> Option<()> {
     let tails = tails_of(alloc, words)?;
     let head = bytes_of(alloc, words.at(0)).ok()?;
-    tell_whether(answer, outbox.room_for_run(SUB, &head, &tails))?;
-    tell(answer, if tails.is_empty() { ", empty" } else { "" })
+    match call {
+        "put_run" => mailbox.put_run(answer, &head, &tails),
+        _ => run_told(answer, &mailbox.outbox, &head, &tails),
+    }
 }
 
 /// Takes the bytes of so many entries behind those that stand there.
 fn take_bytes(
-    answer: &mut String,
-    settled: &mut Settled,
+    answer: &mut Answer,
+    outbox: &mut Outbox,
     alloc: Global,
     words: &Words<'_>,
 ) -> Option<()> {
     let mut out = bytes_of(alloc, words.at(1)).ok()?;
-    let taken = settled.take_bytes(words.number(0) as usize, &mut out).ok()?;
-    write!(answer, "{taken}: ").ok()?;
-    push_shown(answer, &out).ok()
-}
-
-/// Puts the last line.
-fn shut_outbox(
-    answer: &mut String,
-    settled: &mut Settled,
-    alloc: Global,
-    word: &str,
-) -> Option<()> {
-    let line = bytes_of(alloc, word).ok()?;
-    tell_whether(answer, settled.shut(&line))
+    let taken = outbox.take_bytes(words.number(0) as usize, &mut out).ok()?;
+    answer.tell_number("", taken as u64);
+    answer.tell_bytes(": ", &out)
 }
 
 /// Takes so many entries. Tells all, or the last one.
 fn take_entries(
-    answer: &mut String,
-    settled: &mut Settled,
+    answer: &mut Answer,
+    outbox: &mut Outbox,
     alloc: Global,
     count: usize,
     is_last: bool,
 ) -> Option<()> {
-    let entries = settled.take(count).ok()?;
+    let entries = outbox.take(count).ok()?;
     taken(answer, alloc, &entries, is_last)
 }
 
-/// Tells what each of the entries is.
-fn tags_told(answer: &mut String, entries: &[Entry]) -> Option<()> {
-    for entry in entries {
-        tag_told(answer, entry.tag())?;
-        tell(answer, ";")?;
+/// Takes so many entries. Tells what each is.
+fn take_tags(answer: &mut Answer, outbox: &mut Outbox, count: usize) -> Option<()> {
+    for entry in &outbox.take(count).ok()? {
+        tag_told(answer, entry.tag());
+        answer.tell(";");
     }
     Some(())
 }
 
-/// Takes so many entries. Tells what each is.
-fn take_tags(answer: &mut String, settled: &mut Settled, count: usize) -> Option<()> {
-    let entries = settled.take(count).ok()?;
-    tags_told(answer, &entries)
-}
-
-/// Makes a call where nothing is staged.
-fn settled_call(
-    answer: &mut String,
-    settled: &mut Settled,
-    alloc: Global,
-    call: &str,
-    words: &Words<'_>,
-) -> Option<()> {
-    match call {
-        "put_parts" => put_parts(answer, settled, alloc, words.at(0)),
-        "shut" => shut_outbox(answer, settled, alloc, words.at(0)),
-        "take" => take_entries(answer, settled, alloc, words.number(0) as usize, false),
-        "take_last" => take_entries(answer, settled, alloc, usize::MAX, true),
-        "take_tags" => take_tags(answer, settled, words.number(0) as usize),
-        "take_bytes" => take_bytes(answer, settled, alloc, words),
-        _ => None,
-    }
-}
-
-/// Stages the last line.
-fn stage_last(answer: &mut String, staged: &mut Staged, line: &[u8]) -> Option<()> {
-    tell_whether(answer, staged.stage_last(line).ok()?)
-}
-
 /// Tells how many entries wait, and what else is seen of an outbox.
-fn seen(answer: &mut String, outbox: &Outbox) -> Option<()> {
-    let empty = if outbox.is_empty() { ", empty" } else { "" };
-    let shut = if outbox.is_shut() { ", shut" } else { "" };
-    let closing = if outbox.is_closing() { ", closing" } else { "" };
-    write!(answer, "{}{empty}{shut}{closing}", outbox.len()).ok()
-}
-
-/// Makes a call of an outbox that stands.
-fn outboxes_call(
-    answer: &mut String,
-    outboxes: &mut Outboxes,
-    alloc: Global,
-    call: &str,
-    words: &Words<'_>,
-) -> Option<()> {
-    match call {
-        "put" => put_entry(answer, outboxes, reply_of(alloc, words.at(0))),
-        "put_message" => put_entry(answer, outboxes, message_in(alloc, words)),
-        "put_run" => put_run(answer, outboxes, alloc, words),
-        "room_for_run" => room_for_run(answer, outboxes.outbox(), alloc, words),
-        "room" => tell_whether(answer, outboxes.outbox().room(words.number(0) as usize)),
-        "room_for" => tell_whether(answer, outboxes.outbox().room_for(words.at(0).as_bytes())),
-        "seen" => seen(answer, outboxes.outbox()),
-        _ => match outboxes {
-            Outboxes::Settled(settled) => settled_call(answer, settled, alloc, call, words),
-            Outboxes::Staged(staged) if call == "stage_last" => {
-                stage_last(answer, staged, words.at(0).as_bytes())
-            }
-            Outboxes::Staged(_) => None,
-        },
-    }
-}
-
-/// Whether the call turns an outbox in which nothing is staged into one in which something may be, or back.
-fn is_turn(call: &str) -> bool {
-    call == "stage" || call == "commit" || call == "rollback"
-}
-
-/// What is put is staged from now on, or what is staged is shown or taken back.
-fn turned(outboxes: Outboxes, call: &str) -> Outboxes {
-    match call {
-        "stage" => outboxes.open(),
-        "commit" => outboxes.end(true),
-        _ => outboxes.end(false),
-    }
-}
-
-fn turn_outbox(answer: &mut String, place: &mut Option<Outboxes>, call: &str) -> Option<()> {
-    let outboxes = place.take()?;
-    put(place, Some(turned(outboxes, call)));
-    tell(answer, "ok")
+fn seen(answer: &mut Answer, outbox: &Outbox) -> Option<()> {
+    answer.tell_number("", outbox.len() as u64);
+    answer.tell_if(outbox.is_empty(), ", empty");
+    answer.tell_if(outbox.is_shut(), ", shut");
+    answer.tell_if(outbox.is_closing(), ", closing")
 }
 
 /// A new outbox stands from now on.
 fn new_outbox(
-    answer: &mut String,
-    place: &mut Option<Outboxes>,
+    answer: &mut Answer,
+    place: &mut Option<Mailbox>,
     alloc: Global,
     words: &Words<'_>,
 ) -> Option<()> {
     let (entries, bytes) = (words.number(0) as usize, words.number(1) as usize);
-    let settled = Settled::new(alloc, entries, bytes).ok()?;
-    put(place, Some(Outboxes::Settled(settled)));
-    tell(answer, "ok")
+    let mailbox = Mailbox {
+        outbox: Outbox::new(alloc, entries, bytes).ok()?,
+        is_staging: false,
+    };
+    put(place, Some(mailbox));
+    answer.tell("ok")
 }
 
-/// Makes a call of the outbox.
-pub fn outbox_call(
-    answer: &mut String,
-    place: &mut Option<Outboxes>,
+/// Makes a call that is about what waits in an outbox.
+fn waiting_call(
+    answer: &mut Answer,
+    outbox: &mut Outbox,
     alloc: Global,
     call: &str,
     words: &Words<'_>,
 ) -> Option<()> {
-    match place {
-        _ if call == "new" => new_outbox(answer, place, alloc, words),
-        _ if is_turn(call) => turn_outbox(answer, place, call),
-        Some(outboxes) => outboxes_call(answer, outboxes, alloc, call, words),
-        None => None,
+    match call {
+        "room" => answer.tell_whether(outbox.room(words.number(0) as usize)),
+        "room_for" => answer.tell_whether(outbox.room_for(words.at(0).as_bytes())),
+        "seen" => seen(answer, outbox),
+        "shut" => answer.tell_whether(outbox.shut(&bytes_of(alloc, words.at(0)).ok()?)),
+        "take" => take_entries(answer, outbox, alloc, words.number(0) as usize, false),
+        "take_last" => take_entries(answer, outbox, alloc, usize::MAX, true),
+        "take_tags" => take_tags(answer, outbox, words.number(0) as usize),
+        "take_bytes" => take_bytes(answer, outbox, alloc, words),
+        _ => None,
+    }
+}
+
+/// Makes a call of the outbox.
+pub fn outbox_call(
+    answer: &mut Answer,
+    place: &mut Option<Mailbox>,
+    alloc: Global,
+    call: &str,
+    words: &Words<'_>,
+) -> Option<()> {
+    if call == "new" {
+        return new_outbox(answer, place, alloc, words);
+    }
+    let mailbox = place.as_mut()?;
+    match call {
+        "put" => mailbox.put(answer, reply_of(alloc, words.at(0))?),
+        "put_message" => mailbox.put(answer, message_in(alloc, words)?),
+        "put_parts" => mailbox.put_parts(answer, &payload_of(alloc, words.at(0))?),
+        "put_run" | "room_for_run" => run_call(answer, mailbox, alloc, call, words),
+        "stage_last" => mailbox.put_last(answer, words.at(0).as_bytes()),
+        "stage" | "commit" | "rollback" => mailbox.turn(answer, call),
+        _ => waiting_call(answer, &mut mailbox.outbox, alloc, call, words),
     }
 }

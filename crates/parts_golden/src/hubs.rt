@@ -1,4 +1,5 @@
-//! Calls of a server's own interest, of what a peer has told of its interest, of a hub, and of the sessions of two servers.
+//! Calls of a server's own interest, of what a peer has told of its interest, of a hub, and of the sessions of two servers; and of the numbers of
+//! refusals and sessions.
 //!
 //! - `counts.new`; `counts.open PATTERN|QUEUE` and `counts.close PATTERN|QUEUE`: what the other servers are told; `counts.weight
 //!   PATTERN|QUEUE`, `counts.keys`, `counts.key_count`, `counts.has_plain SUBJECT`
@@ -17,20 +18,18 @@
 //!   `on_info SESSION|NAME|INC|LEAST`: what is kept, and the `CONNECT`, and `info_fault` with the same words;
 //!   `on_connect SESSION|NAME|INC|TO|TO_INC|SERIAL|LEAST` and `connect_fault`; `kept PEER`, `cut SESSION`, `cut_fault SESSION`, `drop_kept PEER`,
 //!   `dial_fault PEER`, `accept_fault`
+//! - `refusal.of_hub CAUSE`, `refusal.of_session CAUSE`: the number that the router tells of the refusal; `id.number N`, `id.same N|M` and
+//!   `id.differs N|M`: the number of a session, and whether two are one
 
-use golden::{
-    Words, key_of, life_of, message_of, push_key, put, queue_of, server_of, subject_of, tell,
-    tell_bytes, tell_number, tell_refusal, tell_whether,
-};
+use golden::{Answer, Words, key_of, life_of, message_of, put, queue_of, server_of, subject_of};
 use hub_core::{Hub, HubFault, PublishPlan, Received};
 use interest::{Change, FoundNames, InterestFault, Local, View};
 use route_session::{Kept, SessionFault, SessionId, Sessions};
 use route_values::{Body, Numbered, RouteConnect, RouteInfo, SnapshotKeys, WeightedKey};
 use std::alloc::Global;
-use std::fmt::Write;
 use subj::{
-    ConnId, Delta, Failure, Finished, Incarnation, Job, Key, MAX_SHARDS, NodeId, Pub, QueueName,
-    QueueNames, Turn,
+    Busy, ConnId, Delta, Failure, Finished, Incarnation, Job, Key, MAX_SHARDS, NodeId, Pub,
+    QueueName, QueueNames, Turn,
 };
 
 /// The key of a pattern, and of a queue name behind it.
@@ -39,9 +38,9 @@ fn key_at(alloc: Global, words: &Words<'_>, place: usize) -> Option<Key> {
 }
 
 /// Tells the number of a refusal by interest.
-fn interest_refused(answer: &mut String, fault: Failure<InterestFault>) -> Option<()> {
+fn interest_refused(answer: &mut Answer, fault: Failure<InterestFault>) -> Option<()> {
     match fault {
-        Failure::Refused(fault) => tell_refusal(answer, fault.number()),
+        Failure::Refused(fault) => answer.tell_refusal(fault.number()),
         Failure::OutOfMemory => None,
     }
 }
@@ -53,18 +52,18 @@ fn delta_of(alloc: Global, words: &Words<'_>, up: bool) -> Option<Delta> {
 }
 
 /// Tells what the other servers are told.
-fn change_told(answer: &mut String, change: Option<&Change>) -> Option<()> {
+fn change_told(answer: &mut Answer, change: Option<&Change>) -> Option<()> {
     match change {
-        None => tell(answer, "nothing"),
-        Some(Change::Up(weighted)) => tell_number(answer, "weight ", weighted.weight()),
-        Some(Change::Gone(_)) => tell(answer, "gone"),
-        Some(Change::Clear) => tell(answer, "clear"),
+        None => answer.tell("nothing"),
+        Some(Change::Up(weighted)) => answer.tell_number("weight ", weighted.weight()),
+        Some(Change::Gone(_)) => answer.tell("gone"),
+        Some(Change::Clear) => answer.tell("clear"),
     }
 }
 
 /// Counts an opening or a closing.
 fn count(
-    answer: &mut String,
+    answer: &mut Answer,
     counts: &mut Local,
     alloc: Global,
     words: &Words<'_>,
@@ -78,107 +77,95 @@ fn count(
 }
 
 /// Tells what a key weighs.
-fn weight(answer: &mut String, counts: &Local, alloc: Global, words: &Words<'_>) -> Option<()> {
+fn weight(answer: &mut Answer, counts: &Local, alloc: Global, words: &Words<'_>) -> Option<()> {
     let key = key_at(alloc, words, 0)?;
-    tell_number(answer, "weight ", counts.weight(&key))
+    answer.tell_number("weight ", counts.weight(&key))
 }
 
 /// Tells whether a subscription without a queue name is open that the subject matches.
-fn is_counted(answer: &mut String, counts: &Local, alloc: Global, word: &str) -> Option<()> {
+fn is_counted(answer: &mut Answer, counts: &Local, alloc: Global, word: &str) -> Option<()> {
     let subject = subject_of(alloc, word)?;
-    tell_whether(answer, counts.has_plain(&subject))
+    answer.tell_whether(counts.has_plain(&subject))
 }
 
 /// Tells the keys in their order, each with its weight.
-fn keys(answer: &mut String, counts: &Local) -> Option<()> {
+fn keys(answer: &mut Answer, counts: &Local) -> Option<()> {
+    let mut is_first = true;
     for (key, weight) in counts.keys() {
-        let between = if answer.is_empty() { "" } else { ", " };
-        tell(answer, between)?;
-        push_key(answer, key).ok()?;
-        tell_number(answer, "=", *weight)?;
+        answer.tell_key(if is_first { "" } else { ", " }, key);
+        answer.tell_number("=", *weight);
+        is_first = false;
     }
     Some(())
 }
 
 /// Counts of which nothing is open.
-fn new_counts(answer: &mut String, place: &mut Option<Local>, alloc: Global) -> Option<()> {
+fn new_counts(answer: &mut Answer, place: &mut Option<Local>, alloc: Global) -> Option<()> {
     put(place, Some(Local::new(alloc).ok()?));
-    tell(answer, "ok")
-}
-
-/// Makes a call of counts that stand.
-fn local_call(
-    answer: &mut String,
-    counts: &mut Local,
-    alloc: Global,
-    call: &str,
-    words: &Words<'_>,
-) -> Option<()> {
-    match call {
-        "open" => count(answer, counts, alloc, words, true),
-        "close" => count(answer, counts, alloc, words, false),
-        "weight" => weight(answer, counts, alloc, words),
-        "keys" => keys(answer, counts),
-        "key_count" => tell_number(answer, "keys ", counts.keys().count() as u64),
-        "has_plain" => is_counted(answer, counts, alloc, words.at(0)),
-        _ => None,
-    }
+    answer.tell("ok")
 }
 
 /// Makes a call of a server's own interest.
 pub fn counts_call(
-    answer: &mut String,
+    answer: &mut Answer,
     place: &mut Option<Local>,
     alloc: Global,
     call: &str,
     words: &Words<'_>,
 ) -> Option<()> {
-    match place {
-        _ if call == "new" => new_counts(answer, place, alloc),
-        Some(counts) => local_call(answer, counts, alloc, call, words),
-        None => None,
+    if call == "new" {
+        return new_counts(answer, place, alloc);
+    }
+    let counts = place.as_mut()?;
+    match call {
+        "open" => count(answer, counts, alloc, words, true),
+        "close" => count(answer, counts, alloc, words, false),
+        "weight" => weight(answer, counts, alloc, words),
+        "keys" => keys(answer, counts),
+        "key_count" => answer.tell_number("keys ", counts.keys().count() as u64),
+        "has_plain" => is_counted(answer, counts, alloc, words.at(0)),
+        _ => None,
     }
 }
 
 /// Tells whether news are heard, and the mark then.
 fn heard_told(
-    answer: &mut String,
+    answer: &mut Answer,
     heard: Result<(), Failure<InterestFault>>,
     mark: u64,
 ) -> Option<()> {
     match heard {
-        Ok(()) => tell(answer, "heard")?,
-        Err(fault) => interest_refused(answer, fault)?,
+        Ok(()) => answer.tell("heard"),
+        Err(fault) => interest_refused(answer, fault),
+    }?;
+    answer.tell_number(", mark ", mark)
+}
+
+/// The change of this call: the key of the words behind a number is there with its weight, or is gone, or no key is there.
+fn change_of(alloc: Global, call: &str, words: &Words<'_>) -> Option<Change> {
+    match call {
+        "apply_up" => Some(Change::Up(weighted_of(alloc, words)?)),
+        "apply_gone" => Some(Change::Gone(key_at(alloc, words, 1)?)),
+        _ => Some(Change::Clear),
     }
-    tell_number(answer, ", mark ", mark)
 }
 
 /// Applies a change.
-fn apply_update(answer: &mut String, view: &mut View, number: u64, change: Change) -> Option<()> {
-    let heard = view.apply_update(number, change);
+fn apply_update(
+    answer: &mut Answer,
+    view: &mut View,
+    alloc: Global,
+    call: &str,
+    words: &Words<'_>,
+) -> Option<()> {
+    let change = change_of(alloc, call, words)?;
+    let heard = view.apply_update(words.number(0), change);
     heard_told(answer, heard, view.mark())
 }
 
 /// The key of the words behind a number, and its weight behind it.
 fn weighted_of(alloc: Global, words: &Words<'_>) -> Option<WeightedKey> {
     WeightedKey::new(key_at(alloc, words, 1)?, words.number(3))
-}
-
-/// Applies that a key is there.
-fn apply_up(answer: &mut String, view: &mut View, alloc: Global, words: &Words<'_>) -> Option<()> {
-    let change = Change::Up(weighted_of(alloc, words)?);
-    apply_update(answer, view, words.number(0), change)
-}
-
-/// Applies that a key is gone.
-fn apply_gone(
-    answer: &mut String,
-    view: &mut View,
-    alloc: Global,
-    words: &Words<'_>,
-) -> Option<()> {
-    let change = Change::Gone(key_at(alloc, words, 1)?);
-    apply_update(answer, view, words.number(0), change)
 }
 
 /// The plain key of a number of five digits.
@@ -204,7 +191,7 @@ fn numbered_keys(alloc: Global, count: u64) -> Option<SnapshotKeys> {
 
 /// Applies a snapshot.
 fn apply_snapshot(
-    answer: &mut String,
+    answer: &mut Answer,
     view: &mut View,
     alloc: Global,
     words: &Words<'_>,
@@ -217,29 +204,29 @@ fn apply_snapshot(
 }
 
 /// Tells what a queue name weighs in a subject.
-fn weight_in(answer: &mut String, view: &View, alloc: Global, words: &Words<'_>) -> Option<()> {
+fn weight_in(answer: &mut Answer, view: &View, alloc: Global, words: &Words<'_>) -> Option<()> {
     let subject = subject_of(alloc, words.at(0))?;
     let name = queue_of(alloc, words.at(1))?;
-    tell_number(answer, "weight ", view.weight_in(&subject, &name))
+    answer.tell_number("weight ", view.weight_in(&subject, &name))
 }
 
 /// Tells whether the peer has a subscription without a queue name that the subject matches.
-fn is_heard(answer: &mut String, view: &View, alloc: Global, word: &str) -> Option<()> {
+fn is_heard(answer: &mut Answer, view: &View, alloc: Global, word: &str) -> Option<()> {
     let subject = subject_of(alloc, word)?;
-    tell_whether(answer, view.has_plain(&subject))
+    answer.tell_whether(view.has_plain(&subject))
 }
 
 /// Tells the names that were found.
-fn found_told(answer: &mut String, names: &FoundNames<'_>) -> Option<()> {
-    tell(answer, "names")?;
+fn found_told(answer: &mut Answer, names: &FoundNames<'_>) -> Option<()> {
+    answer.tell("names");
     for place in 0..names.len() {
-        tell_bytes(answer, " ", names.get(place)?.bytes())?;
+        answer.tell_bytes(" ", names.get(place)?.bytes());
     }
     Some(())
 }
 
 /// Tells the queue names that want the subject, asked for twice: each is there once.
-fn names_twice(answer: &mut String, view: &View, alloc: Global, word: &str) -> Option<()> {
+fn names_twice(answer: &mut Answer, view: &View, alloc: Global, word: &str) -> Option<()> {
     let subject = subject_of(alloc, word)?;
     let mut names = FoundNames::new();
     view.names_in(&subject, &mut names).ok()?;
@@ -249,21 +236,21 @@ fn names_twice(answer: &mut String, view: &View, alloc: Global, word: &str) -> O
 
 /// Makes a call of what a peer has told of its interest.
 pub fn view_call(
-    answer: &mut String,
+    answer: &mut Answer,
     view: &mut View,
     alloc: Global,
     call: &str,
     words: &Words<'_>,
 ) -> Option<()> {
     match call {
-        "apply_up" => apply_up(answer, view, alloc, words),
-        "apply_gone" => apply_gone(answer, view, alloc, words),
-        "apply_clear" => apply_update(answer, view, words.number(0), Change::Clear),
+        "apply_up" | "apply_gone" | "apply_clear" => {
+            apply_update(answer, view, alloc, call, words)
+        }
         "apply_snapshot" => apply_snapshot(answer, view, alloc, words),
         "has_plain" => is_heard(answer, view, alloc, words.at(0)),
         "weight_in" => weight_in(answer, view, alloc, words),
         "names_twice" => names_twice(answer, view, alloc, words.at(0)),
-        "key_count" => tell_number(answer, "keys ", view.keys().len() as u64),
+        "key_count" => answer.tell_number("keys ", view.keys().len() as u64),
         _ => None,
     }
 }
@@ -279,7 +266,7 @@ pub struct HubStand {
 
 /// A hub that has just started stands from now on.
 fn new_hub(
-    answer: &mut String,
+    answer: &mut Answer,
     place: &mut Option<HubStand>,
     alloc: Global,
     words: &Words<'_>,
@@ -291,13 +278,13 @@ fn new_hub(
         is_prompt: false,
     };
     put(place, Some(stand));
-    tell(answer, "ok")
+    answer.tell("ok")
 }
 
 /// Tells the number of a refusal by a hub.
-fn hub_refused(answer: &mut String, fault: Failure<HubFault>) -> Option<()> {
+fn hub_refused(answer: &mut Answer, fault: Failure<HubFault>) -> Option<()> {
     match fault {
-        Failure::Refused(fault) => tell_refusal(answer, fault.number()),
+        Failure::Refused(fault) => answer.tell_refusal(fault.number()),
         Failure::OutOfMemory => None,
     }
 }
@@ -311,21 +298,14 @@ impl HubStand {
     }
 }
 
-/// Tells what comes of a frame.
-fn came_told(answer: &mut String, stand: &mut HubStand, received: &Received) -> Option<()> {
-    match received {
-        Received::Heard(mark) => tell_number(answer, "heard ", *mark),
-        Received::Routed(job) => {
-            stand.note(job.turn);
-            tell_number(answer, "turn ", job.turn.get())
-        }
-    }
-}
-
 /// Takes a frame.
-fn receive(answer: &mut String, stand: &mut HubStand, frame: &Numbered) -> Option<()> {
+fn receive(answer: &mut Answer, stand: &mut HubStand, frame: &Numbered) -> Option<()> {
     match stand.hub.receive(frame, &stand.finished) {
-        Ok(received) => came_told(answer, stand, &received),
+        Ok(Received::Heard(mark)) => answer.tell_number("heard ", mark),
+        Ok(Received::Routed(job)) => {
+            stand.note(job.turn);
+            answer.tell_number("turn ", job.turn.get())
+        }
         Err(fault) => hub_refused(answer, fault),
     }
 }
@@ -350,7 +330,7 @@ fn body_of(alloc: Global, kind: &str, words: &Words<'_>) -> Option<Body> {
 
 /// Takes a frame of this kind.
 fn receive_frame(
-    answer: &mut String,
+    answer: &mut Answer,
     stand: &mut HubStand,
     alloc: Global,
     kind: &str,
@@ -373,16 +353,15 @@ fn publication_of(alloc: Global, words: &Words<'_>) -> Option<Pub> {
 }
 
 /// Tells the job that was issued.
-fn job_told(answer: &mut String, stand: &mut HubStand, job: &Job) -> Option<()> {
-    stand.note(job.turn);
-    let (turn, names) = (job.turn.get(), job.queues.as_slice().len());
-    let number = job.id.number;
-    write!(answer, "turn {turn}, number {number}, names {names}").ok()
+fn job_told(answer: &mut Answer, job: &Job) -> Option<()> {
+    answer.tell_number("turn ", job.turn.get());
+    answer.tell_number(", number ", job.id.number);
+    answer.tell_number(", names ", job.queues.as_slice().len() as u64)
 }
 
 /// Publishes, with the word 0.
 fn publish(
-    answer: &mut String,
+    answer: &mut Answer,
     stand: &mut HubStand,
     alloc: Global,
     words: &Words<'_>,
@@ -390,27 +369,29 @@ fn publish(
     let publication = publication_of(alloc, words)?;
     let conn = ConnId::new(words.number(0));
     match stand.hub.publish(conn, &publication, 0, &stand.finished) {
-        Ok(job) => job_told(answer, stand, &job),
+        Ok(job) => {
+            stand.note(job.turn);
+            job_told(answer, &job)
+        }
         Err(fault) => hub_refused(answer, fault),
     }
 }
 
 /// Tells queue names, with blanks between them.
-fn names_told(answer: &mut String, names: &[QueueName]) -> Option<()> {
-    tell(answer, " [")?;
+fn names_told(answer: &mut Answer, names: &[QueueName]) -> Option<()> {
+    answer.tell(" [");
     let mut between = "";
     for name in names {
-        tell_bytes(answer, between, name.bytes())?;
+        answer.tell_bytes(between, name.bytes());
         between = " ";
     }
-    tell(answer, "]")
+    answer.tell("]")
 }
 
 /// Tells the peer that a frame is for, and its queue names.
-fn frame_told(answer: &mut String, frame: &Numbered) -> Option<()> {
-    let to = frame.to();
-    tell(answer, ", ")?;
-    tell(answer, to.text())?;
+fn frame_told(answer: &mut Answer, frame: &Numbered) -> Option<()> {
+    answer.tell(", ");
+    answer.tell(frame.to().text());
     match frame.body() {
         Body::Msg { queues, .. } => names_told(answer, queues.as_slice()),
         _ => None,
@@ -418,9 +399,9 @@ fn frame_told(answer: &mut String, frame: &Numbered) -> Option<()> {
 }
 
 /// Tells what is owed.
-fn plan_told(answer: &mut String, plan: &PublishPlan) -> Option<()> {
-    tell(answer, "here")?;
-    names_told(answer, plan.job.queues.as_slice())?;
+fn plan_told(answer: &mut Answer, plan: &PublishPlan) -> Option<()> {
+    answer.tell("here");
+    names_told(answer, plan.job.queues.as_slice());
     for frame in &plan.frames {
         frame_told(answer, frame)?;
     }
@@ -428,7 +409,7 @@ fn plan_told(answer: &mut String, plan: &PublishPlan) -> Option<()> {
 }
 
 /// Tells what a publication would owe, where no shard has finished a turn.
-fn plan(answer: &mut String, hub: &Hub, alloc: Global, words: &Words<'_>) -> Option<()> {
+fn plan(answer: &mut Answer, hub: &Hub, alloc: Global, words: &Words<'_>) -> Option<()> {
     let publication = publication_of(alloc, words)?;
     let (conn, word) = (ConnId::new(words.number(0)), words.number(3));
     match hub.plan_publish(conn, &publication, word, &Finished::new()) {
@@ -439,94 +420,94 @@ fn plan(answer: &mut String, hub: &Hub, alloc: Global, words: &Words<'_>) -> Opt
 
 /// Counts an opening or a closing, and tells how many changes are told.
 fn collect(
-    answer: &mut String,
+    answer: &mut Answer,
     hub: &mut Hub,
     alloc: Global,
     words: &Words<'_>,
     up: bool,
 ) -> Option<()> {
     match hub.collect(&[delta_of(alloc, words, up)?]) {
-        Ok(told) => tell_number(answer, "told ", told.changes.len() as u64),
+        Ok(told) => answer.tell_number("told ", told.changes.len() as u64),
         Err(fault) => hub_refused(answer, fault),
     }
 }
 
 /// A peer comes up, where it may.
-fn up(answer: &mut String, hub: &mut Hub, place: usize, inc: Incarnation) -> Option<()> {
+fn up(answer: &mut Answer, hub: &mut Hub, place: usize, inc: Incarnation) -> Option<()> {
     if !hub.server().is_peer(place) || hub.seen_of(place) > inc.get() {
         return None;
     }
     hub.peer_up(place, inc).ok()?;
-    tell(answer, "up")
+    answer.tell("up")
 }
 
 /// The session with a peer ends.
-fn cut(answer: &mut String, hub: &mut Hub, place: usize) -> Option<()> {
+fn cut(answer: &mut Answer, hub: &mut Hub, place: usize) -> Option<()> {
     if !hub.server().is_peer(place) {
         return None;
     }
     hub.peer_cut(place);
-    tell(answer, "cut")
+    answer.tell("cut")
 }
 
 /// Takes the frames that wait for a peer: at most so many, or all for 0.
-fn take(answer: &mut String, hub: &mut Hub, place: usize, most: u64) -> Option<()> {
+fn take(answer: &mut Answer, hub: &mut Hub, place: usize, most: u64) -> Option<()> {
     let most = if most == 0 { usize::MAX } else { most as usize };
     match hub.take_route(place, most) {
-        Ok(frames) => tell_number(answer, "frames ", frames.len() as u64),
+        Ok(frames) => answer.tell_number("frames ", frames.len() as u64),
         Err(fault) => hub_refused(answer, fault),
     }
 }
 
 /// Drains: how many peers are cut.
-fn drain(answer: &mut String, hub: &mut Hub) -> Option<()> {
+fn drain(answer: &mut Answer, hub: &mut Hub) -> Option<()> {
     match hub.drain() {
-        Ok(cut) => tell_number(answer, "cut ", cut.len() as u64),
+        Ok(cut) => answer.tell_number("cut ", cut.len() as u64),
         Err(fault) => hub_refused(answer, fault),
     }
 }
 
 /// Makes a call of a hub about a peer.
-fn peer_call(answer: &mut String, hub: &mut Hub, call: &str, words: &Words<'_>) -> Option<()> {
-    let (place, number) = (place_in(hub, words.at(0))?, words.number(1));
+fn peer_call(answer: &mut Answer, hub: &mut Hub, call: &str, words: &Words<'_>) -> Option<()> {
+    let name = NodeId::read(words.at(0).as_bytes()).ok()?;
+    let (place, number) = (hub.server().place(name)?, words.number(1));
     match call {
         "up" => up(answer, hub, place, Incarnation::new(number)?),
         "cut" => cut(answer, hub, place),
-        "seen" => tell_number(answer, "seen ", hub.seen_of(place)),
+        "seen" => answer.tell_number("seen ", hub.seen_of(place)),
         "take" => take(answer, hub, place, number),
         _ => None,
     }
 }
 
-/// The place of the server of this name.
-fn place_in(hub: &Hub, word: &str) -> Option<usize> {
-    hub.server().place(NodeId::read(word.as_bytes()).ok()?)
-}
-
 /// The shard has finished the turn.
-fn finish(answer: &mut String, stand: &mut HubStand, words: &Words<'_>) -> Option<()> {
+fn finish(answer: &mut Answer, stand: &mut HubStand, words: &Words<'_>) -> Option<()> {
     let (shard, turn) = (words.number(0), Turn::new(words.number(1))?);
     if shard < 1 || MAX_SHARDS < shard {
         return None;
     }
     stand.finished.set(shard, turn);
-    tell(answer, "ok")
+    answer.tell("ok")
 }
 
 /// The first shard finishes each turn at once from now on.
-fn be_prompt(answer: &mut String, stand: &mut HubStand) -> Option<()> {
+fn be_prompt(answer: &mut Answer, stand: &mut HubStand) -> Option<()> {
     stand.is_prompt = true;
-    tell(answer, "ok")
+    answer.tell("ok")
 }
 
-/// Makes a call of a hub that stands.
-fn stand_call(
-    answer: &mut String,
-    stand: &mut HubStand,
+/// Makes a call of the hub.
+pub fn hub_call(
+    answer: &mut Answer,
+    place: &mut Option<HubStand>,
     alloc: Global,
     call: &str,
     words: &Words<'_>,
 ) -> Option<()> {
+    if call == "new" {
+        return new_hub(answer, place, alloc, words);
+    }
+    let stand = place.as_mut()?;
     match call {
         "publish" => publish(answer, stand, alloc, words),
         "message" | "plus" | "snapshot" => receive_frame(answer, stand, alloc, call, words),
@@ -537,21 +518,6 @@ fn stand_call(
         "drain" => drain(answer, &mut stand.hub),
         "plan" => plan(answer, &stand.hub, alloc, words),
         _ => peer_call(answer, &mut stand.hub, call, words),
-    }
-}
-
-/// Makes a call of the hub.
-pub fn hub_call(
-    answer: &mut String,
-    place: &mut Option<HubStand>,
-    alloc: Global,
-    call: &str,
-    words: &Words<'_>,
-) -> Option<()> {
-    match place {
-        _ if call == "new" => new_hub(answer, place, alloc, words),
-        Some(stand) => stand_call(answer, stand, alloc, call, words),
-        None => None,
     }
 }
 
@@ -569,7 +535,7 @@ fn sessions_at(alloc: Global, place: usize, inc: u64) -> Option<Sessions> {
 
 /// New sessions of both stand from now on.
 pub fn new_sessions(
-    answer: &mut String,
+    answer: &mut Answer,
     place: &mut Option<Pair>,
     alloc: Global,
     inc: u64,
@@ -577,28 +543,31 @@ pub fn new_sessions(
     let n1 = sessions_at(alloc, 0, inc)?;
     let n2 = sessions_at(alloc, 1, inc)?;
     put(place, Some(Pair { n1, n2 }));
-    tell(answer, "ok")
+    answer.tell("ok")
 }
 
 /// Tells a refusal: where a session is kept that is as good, that one too.
-fn session_refused(answer: &mut String, fault: SessionFault) -> Option<()> {
-    tell_refusal(answer, fault.number())?;
+fn session_refused(answer: &mut Answer, fault: SessionFault) -> Option<()> {
+    answer.tell_refusal(fault.number());
     match &fault {
-        SessionFault::Duplicate { kept } => write!(answer, ", {} is kept", kept.get()).ok(),
+        SessionFault::Duplicate { kept } => {
+            answer.tell_number(", ", kept.get());
+            answer.tell(" is kept")
+        }
         _ => Some(()),
     }
 }
 
 /// Tells why a call would be refused.
-fn cause_told(answer: &mut String, fault: Option<SessionFault>) -> Option<()> {
+fn cause_told(answer: &mut Answer, fault: Option<SessionFault>) -> Option<()> {
     match fault {
         Some(fault) => session_refused(answer, fault),
-        None => tell(answer, "none"),
+        None => answer.tell("none"),
     }
 }
 
 /// Tells why a call failed.
-fn failure_told(answer: &mut String, fault: Failure<SessionFault>) -> Option<()> {
+fn failure_told(answer: &mut Answer, fault: Failure<SessionFault>) -> Option<()> {
     match fault {
         Failure::Refused(fault) => session_refused(answer, fault),
         Failure::OutOfMemory => None,
@@ -606,42 +575,32 @@ fn failure_told(answer: &mut String, fault: Failure<SessionFault>) -> Option<()>
 }
 
 /// Tells what a session that is kept took the place of.
-fn kept_told(answer: &mut String, kept: Kept) -> Option<()> {
+fn kept_told(answer: &mut Answer, kept: Kept) -> Option<()> {
     match kept.instead_of {
-        Some(session) => tell_number(answer, "kept instead of ", session.get()),
-        None => tell(answer, "kept"),
+        Some(session) => answer.tell_number("kept instead of ", session.get()),
+        None => answer.tell("kept"),
     }
 }
 
 /// Tells the `CONNECT` to send.
-fn connect_told(answer: &mut String, connect: &RouteConnect) -> Option<()> {
-    let (from, to) = (connect.server_name(), connect.to());
-    let (inc, to_inc, serial) = (
-        connect.inc().get(),
-        connect.to_inc().get(),
-        connect.serial(),
-    );
-    write!(
-        answer,
-        ", CONNECT of {} {inc} to {} {to_inc}, serial {serial}",
-        from.text(),
-        to.text()
-    )
-    .ok()
+fn connect_told(answer: &mut Answer, connect: &RouteConnect) -> Option<()> {
+    answer.tell_life(", CONNECT of ", connect.server_name(), connect.inc());
+    answer.tell_life(" to ", connect.to(), connect.to_inc());
+    answer.tell_number(", serial ", connect.serial())
 }
 
 /// Dials the server at the place.
-fn dial(answer: &mut String, sessions: &mut Sessions, place: usize) -> Option<()> {
+fn dial(answer: &mut Answer, sessions: &mut Sessions, place: usize) -> Option<()> {
     match sessions.dial(place) {
-        Ok(session) => tell_number(answer, "session ", session.get()),
+        Ok(session) => answer.tell_number("session ", session.get()),
         Err(fault) => failure_told(answer, fault),
     }
 }
 
 /// Accepts a session.
-fn accept(answer: &mut String, sessions: &mut Sessions) -> Option<()> {
+fn accept(answer: &mut Answer, sessions: &mut Sessions) -> Option<()> {
     match sessions.accept() {
-        Ok((session, _info)) => tell_number(answer, "session ", session.get()),
+        Ok((session, _info)) => answer.tell_number("session ", session.get()),
         Err(fault) => failure_told(answer, fault),
     }
 }
@@ -660,11 +619,11 @@ fn connect_of(words: &Words<'_>) -> Option<RouteConnect> {
 }
 
 /// An `INFO` comes.
-fn on_info(answer: &mut String, sessions: &mut Sessions, words: &Words<'_>) -> Option<()> {
+fn on_info(answer: &mut Answer, sessions: &mut Sessions, words: &Words<'_>) -> Option<()> {
     let session = SessionId::new(words.number(0));
     match sessions.on_info(session, &info_of(words)?, words.number(3)) {
         Ok((kept, connect)) => {
-            kept_told(answer, kept)?;
+            kept_told(answer, kept);
             connect_told(answer, &connect)
         }
         Err(fault) => session_refused(answer, fault),
@@ -672,7 +631,7 @@ fn on_info(answer: &mut String, sessions: &mut Sessions, words: &Words<'_>) -> O
 }
 
 /// A `CONNECT` comes.
-fn on_connect(answer: &mut String, sessions: &mut Sessions, words: &Words<'_>) -> Option<()> {
+fn on_connect(answer: &mut Answer, sessions: &mut Sessions, words: &Words<'_>) -> Option<()> {
     let session = SessionId::new(words.number(0));
     match sessions.on_connect(session, &connect_of(words)?, words.number(6)) {
         Ok(kept) => kept_told(answer, kept),
@@ -681,35 +640,35 @@ fn on_connect(answer: &mut String, sessions: &mut Sessions, words: &Words<'_>) -
 }
 
 /// Ends a session. Tells which peer's kept one it was.
-fn cut_session(answer: &mut String, sessions: &mut Sessions, session: SessionId) -> Option<()> {
+fn cut_session(answer: &mut Answer, sessions: &mut Sessions, session: SessionId) -> Option<()> {
     match sessions.cut(session) {
         Ok(Some(place)) => {
             let name = sessions.server().names().get(place)?;
-            tell(answer, "ended, was kept for ")?;
-            tell(answer, name.text())
+            answer.tell("ended, was kept for ");
+            answer.tell(name.text())
         }
-        Ok(None) => tell(answer, "ended"),
+        Ok(None) => answer.tell("ended"),
         Err(fault) => session_refused(answer, fault),
     }
 }
 
 /// Tells the session that is kept for the peer at the place.
-fn kept(answer: &mut String, sessions: &Sessions, place: usize) -> Option<()> {
+fn kept(answer: &mut Answer, sessions: &Sessions, place: usize) -> Option<()> {
     match sessions.kept_session(place) {
-        Some(session) => tell_number(answer, "session ", session.get()),
-        None => tell(answer, "none"),
+        Some(session) => answer.tell_number("session ", session.get()),
+        None => answer.tell("none"),
     }
 }
 
 /// Lets go of the session that is kept for the peer at the place.
-fn drop_kept(answer: &mut String, sessions: &mut Sessions, place: usize) -> Option<()> {
+fn drop_kept(answer: &mut Answer, sessions: &mut Sessions, place: usize) -> Option<()> {
     sessions.drop_kept(place);
-    tell(answer, "ok")
+    answer.tell("ok")
 }
 
 /// Makes a call of the sessions of one server about a peer.
 fn peer_session_call(
-    answer: &mut String,
+    answer: &mut Answer,
     sessions: &mut Sessions,
     call: &str,
     name: &str,
@@ -724,24 +683,27 @@ fn peer_session_call(
     }
 }
 
-/// Tells why an `INFO` would be refused.
-fn info_fault(answer: &mut String, sessions: &Sessions, words: &Words<'_>) -> Option<()> {
-    let (session, info) = (SessionId::new(words.number(0)), info_of(words)?);
-    cause_told(answer, sessions.info_fault(session, &info, words.number(3)))
-}
-
-/// Tells why a `CONNECT` would be refused.
-fn connect_fault(answer: &mut String, sessions: &Sessions, words: &Words<'_>) -> Option<()> {
-    let (session, connect) = (SessionId::new(words.number(0)), connect_of(words)?);
-    cause_told(
-        answer,
-        sessions.connect_fault(session, &connect, words.number(6)),
-    )
+/// Why a call of a session would be refused; nothing where there is no such call.
+fn fault_of(
+    sessions: &Sessions,
+    session: SessionId,
+    call: &str,
+    words: &Words<'_>,
+) -> Option<Option<SessionFault>> {
+    match call {
+        "info_fault" => Some(sessions.info_fault(session, &info_of(words)?, words.number(3))),
+        "connect_fault" => {
+            Some(sessions.connect_fault(session, &connect_of(words)?, words.number(6)))
+        }
+        "accept_fault" => Some(sessions.accept_fault()),
+        "cut_fault" => Some(sessions.cut_fault(session)),
+        _ => None,
+    }
 }
 
 /// Makes a call of the sessions of one server.
 fn session_call(
-    answer: &mut String,
+    answer: &mut Answer,
     sessions: &mut Sessions,
     call: &str,
     words: &Words<'_>,
@@ -755,17 +717,13 @@ fn session_call(
         "on_info" => on_info(answer, sessions, words),
         "on_connect" => on_connect(answer, sessions, words),
         "cut" => cut_session(answer, sessions, session),
-        "info_fault" => info_fault(answer, sessions, words),
-        "connect_fault" => connect_fault(answer, sessions, words),
-        "accept_fault" => cause_told(answer, sessions.accept_fault()),
-        "cut_fault" => cause_told(answer, sessions.cut_fault(session)),
-        _ => None,
+        _ => cause_told(answer, fault_of(sessions, session, call, words)?),
     }
 }
 
 /// Makes a call of the sessions of n1 or n2.
 pub fn pair_call(
-    answer: &mut String,
+    answer: &mut Answer,
     pair: &mut Option<Pair>,
     name: &str,
     call: &str,
@@ -775,5 +733,62 @@ pub fn pair_call(
         Some(pair) if name == "n1" => session_call(answer, &mut pair.n1, call, words),
         Some(pair) => session_call(answer, &mut pair.n2, call, words),
         None => None,
+    }
+}
+
+/// The hub's refusal of this name.
+fn hub_fault(name: &str) -> Option<HubFault> {
+    match name {
+        "draining" => Some(HubFault::Draining),
+        "busy" => Some(HubFault::Busy(Busy {
+            shard: 2,
+            finished: Turn::zero(),
+        })),
+        "too many queues" => Some(HubFault::TooManyQueues),
+        "spent" => Some(HubFault::Spent),
+        "not me" => Some(HubFault::NotMe),
+        "other me" => Some(HubFault::OtherMe),
+        "not in cluster" => Some(HubFault::NotInCluster),
+        "stale origin" => Some(HubFault::StaleOrigin),
+        "late" => Some(HubFault::Late),
+        "gap" => Some(HubFault::Gap),
+        "bad interest" => Some(HubFault::BadInterest),
+        _ => None,
+    }
+}
+
+/// The sessions' refusal of this name.
+fn session_fault(name: &str) -> Option<SessionFault> {
+    match name {
+        "wrong name" => Some(SessionFault::WrongName),
+        "old incarnation" => Some(SessionFault::OldIncarnation),
+        "duplicate" => Some(SessionFault::Duplicate {
+            kept: SessionId::new(1),
+        }),
+        "unknown session" => Some(SessionFault::UnknownSession),
+        "too many sessions" => Some(SessionFault::TooManySessions),
+        "spent" => Some(SessionFault::Spent),
+        _ => None,
+    }
+}
+
+/// Tells the number of a refusal of this name.
+pub fn refusal_call(answer: &mut Answer, call: &str, name: &str) -> Option<()> {
+    let number = match call {
+        "of_hub" => hub_fault(name)?.number(),
+        _ => session_fault(name)?.number(),
+    };
+    answer.tell_number("number ", u64::from(number))
+}
+
+/// Makes a call of the numbers of sessions.
+pub fn id_call(answer: &mut Answer, call: &str, words: &Words<'_>) -> Option<()> {
+    let one = SessionId::new(words.number(0));
+    let other = SessionId::new(words.number(1));
+    match call {
+        "number" => answer.tell_number("number ", one.get()),
+        "same" => answer.tell_whether(one == other),
+        "differs" => answer.tell_whether(one != other),
+        _ => None,
     }
 }

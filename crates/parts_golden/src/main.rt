@@ -11,18 +11,13 @@
 //! ```
 //!
 //! In reading order: `names` makes the calls of names, values and fields; `streams` those of streams; `client` those of a client's lines, frames and
-//! connection; `routes` those of frames of routes, and of values that are the same; and `frames` has what a case has made of all these. `guarded` has
-//! what calls may ask for only where something holds; `entries` makes the calls of entries and outboxes; `shards` those of tries, races and shards;
-//! `tables` those of tables of subscriptions; and `hubs` those of interest, hubs and sessions. Here are those of numbers:
-//!
-//! - `refusal.of_hub CAUSE`, `refusal.of_session CAUSE`: the number that the router tells of the refusal
-//! - `id.number N`, `id.same N|M` and `id.differs N|M`: the number of a session, and whether two are one
+//! connection; `routes` those of frames of routes, and of values that are the same; `entries` those of entries and outboxes; `shards` those of tries,
+//! races and shards; `tables` those of tables of subscriptions; and `hubs` those of interest, hubs and sessions. What may be asked only where something
+//! holds is asked through a type that knows it: a race (`shards`), weights (`shards`) and a table (`tables`).
 #![tactic(auto)]
 
 mod client;
 mod entries;
-mod frames;
-mod guarded;
 mod hubs;
 mod names;
 mod routes;
@@ -30,180 +25,42 @@ mod shards;
 mod streams;
 mod tables;
 
-use entries::{entry_call, outbox_call};
-use frames::FrameParts;
-use golden::{Words, put, tell_number, tell_whether, told};
-use guarded::{Course, Opened, Outboxes};
-use hub_core::HubFault;
-use hubs::{HubStand, Pair, counts_call, hub_call, new_sessions, pair_call, view_call};
+use client_conn::Conn;
+use client_frames::SharedTexts;
+use entries::Mailbox;
+use golden::{Answer, Words, put};
+use hubs::{HubStand, Pair};
 use interest::{Local, View};
 use outbox::Entry;
 use pattern_trie::PatternTrie;
-use route_session::{SessionFault, SessionId};
-use shards::{Stand, choose, patterns_call, race_call, shard_call};
+use routes::Routes;
+use shards::{Course, Stand};
 use std::alloc::{AllocError, Global};
 use std::process::ExitCode;
+use streams::Streams;
 use sub_table::ListTable;
 use sub_trie::TrieTable;
-use subj::{Busy, Turn};
-use tables::{compare, table_call, trie_call};
+use tables::Opened;
 
-/// The hub's refusal of this name.
-fn hub_fault(name: &str) -> Option<HubFault> {
-    match name {
-        "draining" => Some(HubFault::Draining),
-        "busy" => Some(HubFault::Busy(Busy {
-            shard: 2,
-            finished: Turn::zero(),
-        })),
-        "too many queues" => Some(HubFault::TooManyQueues),
-        "spent" => Some(HubFault::Spent),
-        "not me" => Some(HubFault::NotMe),
-        "other me" => Some(HubFault::OtherMe),
-        "not in cluster" => Some(HubFault::NotInCluster),
-        "stale origin" => Some(HubFault::StaleOrigin),
-        "late" => Some(HubFault::Late),
-        "gap" => Some(HubFault::Gap),
-        "bad interest" => Some(HubFault::BadInterest),
-        _ => None,
-    }
-}
-
-/// The sessions' refusal of this name.
-fn session_fault(name: &str) -> Option<SessionFault> {
-    match name {
-        "wrong name" => Some(SessionFault::WrongName),
-        "old incarnation" => Some(SessionFault::OldIncarnation),
-        "duplicate" => Some(SessionFault::Duplicate {
-            kept: SessionId::new(1),
-        }),
-        "unknown session" => Some(SessionFault::UnknownSession),
-        "too many sessions" => Some(SessionFault::TooManySessions),
-        "spent" => Some(SessionFault::Spent),
-        _ => None,
-    }
-}
-
-/// Tells the number of a refusal of this name.
-fn refusal_call(answer: &mut String, call: &str, name: &str) -> Option<()> {
-    let number = match call {
-        "of_hub" => hub_fault(name)?.number(),
-        _ => session_fault(name)?.number(),
-    };
-    tell_number(answer, "number ", u64::from(number))
-}
-
-/// Makes a call of the numbers of sessions.
-fn id_call(answer: &mut String, call: &str, words: &Words<'_>) -> Option<()> {
-    let one = SessionId::new(words.number(0));
-    let other = SessionId::new(words.number(1));
-    match call {
-        "number" => tell_number(answer, "number ", one.get()),
-        "same" => tell_whether(answer, one == other),
-        "differs" => tell_whether(answer, one != other),
-        _ => None,
-    }
-}
-
-/// What a case has made of outboxes, tries, tables and shards.
+/// What a case has made that later calls of the same case need.
 #[derive(Drop)]
-struct ShardParts {
+struct Rig {
+    alloc: Global,
+    streams: Streams,
+    texts: SharedTexts,
+    conn: Option<Conn>,
+    routes: Routes,
     entry: Option<Entry>,
-    outbox: Option<Outboxes>,
+    outbox: Option<Mailbox>,
     patterns: PatternTrie<u64>,
     list: Option<Opened<ListTable>>,
     trie: Option<Opened<TrieTable>>,
     shard: Option<Stand>,
     race: Option<Course>,
-}
-
-impl ShardParts {
-    /// Nothing.
-    fn new(alloc: Global) -> ShardParts {
-        ShardParts {
-            entry: None,
-            outbox: None,
-            patterns: PatternTrie::new(alloc),
-            list: None,
-            trie: None,
-            shard: None,
-            race: None,
-        }
-    }
-
-    /// Makes a call of these.
-    fn call(
-        &mut self,
-        answer: &mut String,
-        alloc: Global,
-        of: &str,
-        call: &str,
-        words: &Words<'_>,
-    ) -> Option<()> {
-        match of {
-            "entry" => entry_call(answer, &mut self.entry, alloc, call, words),
-            "outbox" => outbox_call(answer, &mut self.outbox, alloc, call, words),
-            "patterns" => patterns_call(answer, &mut self.patterns, alloc, call, words),
-            "list" => table_call(answer, &mut self.list, alloc, call, words),
-            "trie" => trie_call(answer, &mut self.trie, alloc, call, words),
-            "tables" => compare(answer, alloc, words.number(0), words.number(1)),
-            "shard" => shard_call(answer, &mut self.shard, alloc, call, words),
-            "race" => race_call(answer, &mut self.race, alloc, call, words),
-            "pick" => choose(answer, alloc, words.at(0), words.number(1)),
-            _ => None,
-        }
-    }
-}
-
-/// What a case has made of interest, hubs and sessions.
-#[derive(Drop)]
-struct HubParts {
     counts: Option<Local>,
     view: View,
     hub: Option<HubStand>,
     pair: Option<Pair>,
-}
-
-impl HubParts {
-    /// Nothing but a view of which nothing was heard.
-    fn new(alloc: Global) -> HubParts {
-        HubParts {
-            counts: None,
-            view: View::new(alloc),
-            hub: None,
-            pair: None,
-        }
-    }
-
-    /// Makes a call of these.
-    fn call(
-        &mut self,
-        answer: &mut String,
-        alloc: Global,
-        of: &str,
-        call: &str,
-        words: &Words<'_>,
-    ) -> Option<()> {
-        match of {
-            "counts" => counts_call(answer, &mut self.counts, alloc, call, words),
-            "view" => view_call(answer, &mut self.view, alloc, call, words),
-            "hub" => hub_call(answer, &mut self.hub, alloc, call, words),
-            "sessions" => new_sessions(answer, &mut self.pair, alloc, words.number(0)),
-            "n1" | "n2" => pair_call(answer, &mut self.pair, of, call, words),
-            "refusal" => refusal_call(answer, call, words.at(0)),
-            "id" => id_call(answer, call, words),
-            _ => None,
-        }
-    }
-}
-
-/// What stands in a case.
-#[derive(Drop)]
-struct Rig {
-    alloc: Global,
-    frame_parts: FrameParts,
-    shard_parts: ShardParts,
-    hub_parts: HubParts,
 }
 
 impl Rig {
@@ -211,31 +68,80 @@ impl Rig {
     fn new(alloc: Global) -> Rig {
         Rig {
             alloc,
-            frame_parts: FrameParts::new(alloc),
-            shard_parts: ShardParts::new(alloc),
-            hub_parts: HubParts::new(alloc),
+            streams: Streams::new(alloc),
+            texts: SharedTexts::new(alloc),
+            conn: None,
+            routes: Routes::new(alloc),
+            entry: None,
+            outbox: None,
+            patterns: PatternTrie::new(alloc),
+            list: None,
+            trie: None,
+            shard: None,
+            race: None,
+            counts: None,
+            view: View::new(alloc),
+            hub: None,
+            pair: None,
         }
     }
-}
 
-impl Rig {
-    /// Makes a call of frames, of shards or of hubs.
-    fn call(&mut self, answer: &mut String, of: &str, call: &str, words: &Words<'_>) -> Option<()> {
+    /// Makes a call of what is read and written.
+    fn call(&mut self, answer: &mut Answer, of: &str, call: &str, words: &Words<'_>) -> Option<()> {
         let alloc = self.alloc;
         match of {
-            "counts" | "view" | "hub" | "sessions" | "n1" | "n2" | "refusal" | "id" => {
-                self.hub_parts.call(answer, alloc, of, call, words)
-            }
-            "entry"
-            | "outbox"
-            | "patterns"
-            | "list"
-            | "trie"
-            | "tables"
-            | "shard"
-            | "race"
-            | "pick" => self.shard_parts.call(answer, alloc, of, call, words),
-            _ => self.frame_parts.call(answer, alloc, of, call, words),
+            "cutter" => streams::cutter_call(answer, &mut self.streams, alloc, call, words),
+            "source" => streams::source_call(answer, &mut self.streams, alloc, call, words),
+            "sink" => streams::sink_call(answer, &mut self.streams, alloc, call, words),
+            "cut" => streams::cut_call(answer, alloc, call, words),
+            "raw" => streams::raw_call(answer, alloc, call, words),
+            "fault" => client::fault_call(answer, call, words.at(0)),
+            "reply" => client::reply_call(answer, alloc, call, words.text),
+            "info" => client::info_call(answer, alloc, words.text),
+            "delivery" => client::delivery_call(answer, alloc, call, words),
+            "line" => client::line_call(answer, &mut self.texts, alloc, call, words.text),
+            "conn" => client::conn_call(answer, &mut self.conn, alloc, call, words.text),
+            "frame" => routes::frame_call(answer, &mut self.routes, alloc, call, words),
+            "snapshot" => routes::snapshot_call(answer, &mut self.routes, alloc, call, words),
+            "weighted" => routes::weighted_call(answer, alloc, call, words.text),
+            "stream" => routes::stream_call(answer, alloc, call, words.text),
+            "same" => routes::same_call(answer, alloc, call, words.text),
+            _ => self.part_call(answer, of, call, words),
+        }
+    }
+
+    /// Makes a call of the parts of a server, or of names and values.
+    fn part_call(
+        &mut self,
+        answer: &mut Answer,
+        of: &str,
+        call: &str,
+        words: &Words<'_>,
+    ) -> Option<()> {
+        let alloc = self.alloc;
+        match of {
+            "entry" => entries::entry_call(answer, &mut self.entry, alloc, call, words),
+            "outbox" => entries::outbox_call(answer, &mut self.outbox, alloc, call, words),
+            "patterns" => shards::patterns_call(answer, &mut self.patterns, alloc, call, words),
+            "pick" => shards::choose(answer, alloc, words.at(0), words.number(1)),
+            "race" => shards::race_call(answer, &mut self.race, alloc, call, words),
+            "shard" => shards::shard_call(answer, &mut self.shard, alloc, call, words),
+            "list" => tables::table_call(answer, &mut self.list, alloc, call, words),
+            "trie" => tables::trie_call(answer, &mut self.trie, alloc, call, words),
+            "tables" => tables::compare(answer, alloc, words.number(0), words.number(1)),
+            "counts" => hubs::counts_call(answer, &mut self.counts, alloc, call, words),
+            "view" => hubs::view_call(answer, &mut self.view, alloc, call, words),
+            "hub" => hubs::hub_call(answer, &mut self.hub, alloc, call, words),
+            "sessions" => hubs::new_sessions(answer, &mut self.pair, alloc, words.number(0)),
+            "n1" | "n2" => hubs::pair_call(answer, &mut self.pair, of, call, words),
+            "refusal" => hubs::refusal_call(answer, call, words.at(0)),
+            "id" => hubs::id_call(answer, call, words),
+            "key" => names::key_call(answer, alloc, call, words),
+            "number" => names::number_call(answer, call, words),
+            "server" => names::server_call(answer, alloc, call, words),
+            "message" => names::message_call(answer, alloc, call, words),
+            "part" => names::part_call(answer, alloc, call, words),
+            _ => names::name_call(answer, alloc, of, call, words),
         }
     }
 }
@@ -250,9 +156,9 @@ impl golden::Rig for Rig {
     fn answer(&mut self, name: &str, words: &Words<'_>) -> Result<String, AllocError> {
         let alloc = self.alloc;
         let (of, call) = name.split_once('.').unwrap_or((name, ""));
-        let mut answer = String::new(alloc);
+        let mut answer = Answer::new(alloc);
         let is_told = self.call(&mut answer, of, call, words);
-        told(alloc, answer, is_told)
+        answer.told(alloc, is_told)
     }
 }
 

@@ -2,14 +2,12 @@
 
 use bytes::Bytes;
 use golden::{
-    Words, bytes_of, headed_message_of, key_in, life_of, message_of, pattern_of, payload_of,
-    push_key, push_shown, queues_of, server_of, subject_of, tell, tell_bytes, tell_choice,
-    tell_number, tell_refusal, tell_whether,
+    Answer, Words, bytes_of, headed_message_of, key_in, life_of, message_of, named, pattern_of,
+    payload_of, queues_of, server_of, subject_of,
 };
 use line_fields::{MAX_DIGITS, fields, is_word, read_digits, split_line};
 use std::alloc::Global;
 use std::cmp::Ordering;
-use std::fmt::Write;
 use subj::{
     Busy, CLIENT_LINE, ConnId, Failure, Finished, Incarnation, JOIN_EVENTS, Job, LAST_LINE,
     MAX_COST, MAX_COUNTER, MAX_INCARNATION, MAX_KEYS, MAX_NODE_NAME, MAX_NODES, MAX_PAYLOAD,
@@ -21,101 +19,106 @@ use subj::{
 };
 
 /// Tells the number of the cause for which the bytes are no name of this kind.
-fn fault(answer: &mut String, alloc: Global, kind: &str, word: &str) -> Option<()> {
-    let bytes = bytes_of(alloc, word).ok()?;
+fn fault(answer: &mut Answer, kind: &str, bytes: &[u8]) -> Option<()> {
     let fault = match kind {
-        "pattern" => Pattern::fault(&bytes),
-        "subject" => Subject::fault(&bytes),
-        "queue" => QueueName::fault(&bytes),
-        "sid" => Sid::fault(&bytes),
-        _ => NodeId::fault(&bytes),
+        "pattern" => Pattern::fault(bytes),
+        "subject" => Subject::fault(bytes),
+        "queue" => QueueName::fault(bytes),
+        "sid" => Sid::fault(bytes),
+        _ => NodeId::fault(bytes),
     };
     match fault {
-        None => tell(answer, "none"),
-        Some(fault) => tell_number(answer, "", u64::from(fault.number())),
+        None => answer.tell("none"),
+        Some(fault) => answer.tell_number("", u64::from(fault.number())),
     }
 }
 
 /// Puts a copy of a pattern that is read.
-fn put_pattern(answer: &mut String, alloc: Global, bytes: &[u8]) -> Result<(), Failure<NameFault>> {
+fn put_pattern(answer: &mut Answer, alloc: Global, bytes: &[u8]) -> Result<(), Failure<NameFault>> {
     let copy = Pattern::read(alloc, bytes)?.try_clone(alloc)?;
-    Ok(push_shown(answer, copy.bytes())?)
+    answer.tell_bytes("", copy.bytes());
+    Ok(())
 }
 
 /// Puts a copy of a subject that is read.
-fn put_subject(answer: &mut String, alloc: Global, bytes: &[u8]) -> Result<(), Failure<NameFault>> {
+fn put_subject(answer: &mut Answer, alloc: Global, bytes: &[u8]) -> Result<(), Failure<NameFault>> {
     let copy = Subject::read(alloc, bytes)?.try_clone()?;
-    Ok(push_shown(answer, copy.bytes())?)
+    answer.tell_bytes("", copy.bytes());
+    Ok(())
 }
 
 /// Puts a copy of the name of a queue group that is read.
-fn put_queue(answer: &mut String, alloc: Global, bytes: &[u8]) -> Result<(), Failure<NameFault>> {
+fn put_queue(answer: &mut Answer, alloc: Global, bytes: &[u8]) -> Result<(), Failure<NameFault>> {
     let copy = QueueName::read(alloc, bytes)?.try_clone(alloc)?;
-    Ok(push_shown(answer, copy.bytes())?)
+    answer.tell_bytes("", copy.bytes());
+    Ok(())
 }
 
 /// Puts a copy of the id of a subscription that is read.
-fn put_sid(answer: &mut String, alloc: Global, bytes: &[u8]) -> Result<(), Failure<NameFault>> {
+fn put_sid(answer: &mut Answer, alloc: Global, bytes: &[u8]) -> Result<(), Failure<NameFault>> {
     let copy = Sid::read(alloc, bytes)?.try_clone(alloc)?;
-    Ok(push_shown(answer, copy.bytes())?)
+    answer.tell_bytes("", copy.bytes());
+    Ok(())
 }
 
 /// Puts the name of a server that is read, which is copied without a call.
-fn put_node(answer: &mut String, bytes: &[u8]) -> Result<(), Failure<NameFault>> {
+fn put_node(answer: &mut Answer, bytes: &[u8]) -> Result<(), Failure<NameFault>> {
     match NodeId::read(bytes) {
-        Ok(name) => Ok(push_shown(answer, name.bytes())?),
+        Ok(name) => {
+            answer.tell(name.text());
+            Ok(())
+        }
         Err(fault) => Err(Failure::Refused(fault)),
     }
 }
 
 /// Tells a copy of a name that is read, or the cause for which it is none.
-fn copy(answer: &mut String, alloc: Global, kind: &str, word: &str) -> Option<()> {
-    let bytes = bytes_of(alloc, word).ok()?;
+fn copy(answer: &mut Answer, alloc: Global, kind: &str, bytes: &[u8]) -> Option<()> {
     let copied = match kind {
-        "pattern" => put_pattern(answer, alloc, &bytes),
-        "subject" => put_subject(answer, alloc, &bytes),
-        "queue" => put_queue(answer, alloc, &bytes),
-        "sid" => put_sid(answer, alloc, &bytes),
-        _ => put_node(answer, &bytes),
+        "pattern" => put_pattern(answer, alloc, bytes),
+        "subject" => put_subject(answer, alloc, bytes),
+        "queue" => put_queue(answer, alloc, bytes),
+        "sid" => put_sid(answer, alloc, bytes),
+        _ => put_node(answer, bytes),
     };
     match copied {
         Ok(()) => Some(()),
-        Err(Failure::Refused(fault)) => tell_refusal(answer, fault.number()),
+        Err(Failure::Refused(fault)) => answer.tell_refusal(fault.number()),
         Err(Failure::OutOfMemory) => None,
     }
 }
 
 /// Tells the subject that a part of some shared bytes is.
-fn part(answer: &mut String, alloc: Global, words: &Words<'_>) -> Option<()> {
+fn part(answer: &mut Answer, alloc: Global, words: &Words<'_>) -> Option<()> {
     let bytes = payload_of(alloc, words.at(0))?;
     let (start, end) = (words.number(1) as usize, words.number(2) as usize);
     if start > end || end > bytes.len() {
         return None;
     }
     match Subject::from_shared(bytes.slice(start..end).ok()?) {
-        Ok(subject) => push_shown(answer, subject.bytes()).ok(),
-        Err(fault) => tell_refusal(answer, fault.number()),
+        Ok(subject) => answer.tell_bytes("", subject.bytes()),
+        Err(fault) => answer.tell_refusal(fault.number()),
     }
 }
 
 /// Tells whether a pattern matches a subject.
-fn matches(answer: &mut String, alloc: Global, words: &Words<'_>) -> Option<()> {
+fn matches(answer: &mut Answer, alloc: Global, words: &Words<'_>) -> Option<()> {
     let pattern = pattern_of(alloc, words.at(0))?;
     let subject = subject_of(alloc, words.at(1))?;
-    tell_whether(answer, pattern.matches(&subject))
+    answer.tell_whether(pattern.matches(&subject))
 }
 
 /// Makes a call of a name of this kind.
 pub fn name_call(
-    answer: &mut String,
+    answer: &mut Answer,
     alloc: Global,
     kind: &str,
     call: &str,
     words: &Words<'_>,
 ) -> Option<()> {
     match call {
-        "fault" => fault(answer, alloc, kind, words.text),
-        "copy" => copy(answer, alloc, kind, words.text),
+        "fault" => fault(answer, kind, &bytes_of(alloc, words.text).ok()?),
+        "copy" => copy(answer, alloc, kind, &bytes_of(alloc, words.text).ok()?),
         "part" => part(answer, alloc, words),
         "match" => matches(answer, alloc, words),
         _ => None,
@@ -123,13 +126,13 @@ pub fn name_call(
 }
 
 /// Tells a copy of a key.
-fn key_copy(answer: &mut String, alloc: Global, word: &str) -> Option<()> {
+fn key_copy(answer: &mut Answer, alloc: Global, word: &str) -> Option<()> {
     let copy = key_in(alloc, word)?.try_clone(alloc).ok()?;
-    push_key(answer, &copy).ok()
+    answer.tell_key("", &copy)
 }
 
 /// Tells how a key stands to another.
-fn order(answer: &mut String, alloc: Global, words: &Words<'_>) -> Option<()> {
+fn order(answer: &mut Answer, alloc: Global, words: &Words<'_>) -> Option<()> {
     let left = key_in(alloc, words.at(0))?;
     let right = key_in(alloc, words.at(1))?;
     let told = match left.order(&right) {
@@ -137,22 +140,22 @@ fn order(answer: &mut String, alloc: Global, words: &Words<'_>) -> Option<()> {
         Ordering::Equal => "equal",
         Ordering::Greater => "greater",
     };
-    tell(answer, told)
+    answer.tell(told)
 }
 
 /// Tells how many names of queue groups these are, where they rise and are not too many.
-fn queue_names(answer: &mut String, alloc: Global, text: &str) -> Option<()> {
+fn queue_names(answer: &mut Answer, alloc: Global, text: &str) -> Option<()> {
     match queues_of(alloc, text)? {
-        None => tell(answer, "none"),
-        Some(names) => tell_number(answer, "", names.as_slice().len() as u64),
+        None => answer.tell("none"),
+        Some(names) => answer.tell_number("", names.as_slice().len() as u64),
     }
 }
 
 /// Makes a call of keys.
-pub fn key_call(answer: &mut String, alloc: Global, call: &str, words: &Words<'_>) -> Option<()> {
+pub fn key_call(answer: &mut Answer, alloc: Global, call: &str, words: &Words<'_>) -> Option<()> {
     match call {
         "copy" => key_copy(answer, alloc, words.text),
-        "cost" => tell_number(answer, "", key_in(alloc, words.text)?.cost()),
+        "cost" => answer.tell_number("", key_in(alloc, words.text)?.cost()),
         "order" => order(answer, alloc, words),
         "queue_names" => queue_names(answer, alloc, words.text),
         _ => None,
@@ -193,29 +196,20 @@ static LIMITS: [(&str, u64); 30] = [
     ("JOIN_EVENTS", JOIN_EVENTS),
 ];
 
-/// What stands behind this name in a table.
-pub fn named<T: Copy>(table: &[(&'static str, T)], name: &str) -> Option<T> {
-    for (other, value) in table {
-        if *other == name {
-            return Some(*value);
-        }
-    }
-    None
-}
-
 /// The limit of this name, 0 where none has it.
 fn limit(name: &str) -> u64 {
     named(&LIMITS, name).unwrap_or(0)
 }
 
 /// Tells the turn of this number, and the one behind it.
-fn turn(answer: &mut String, turn: Option<Turn>) -> Option<()> {
+fn turn(answer: &mut Answer, turn: Option<Turn>) -> Option<()> {
     let Some(turn) = turn else {
-        return tell(answer, "none");
+        return answer.tell("none");
     };
+    answer.tell_number("", turn.get());
     match turn.next() {
-        None => write!(answer, "{}, the last", turn.get()).ok(),
-        Some(next) => write!(answer, "{}, then {}", turn.get(), next.get()).ok(),
+        None => answer.tell(", the last"),
+        Some(next) => answer.tell_number(", then ", next.get()),
     }
 }
 
@@ -231,12 +225,13 @@ fn finished_of(shard: u64, number: u64) -> Finished {
 }
 
 /// Tells which shard is behind, with the turn that it finished.
-fn busy(answer: &mut String, shard: u64, number: u64) -> Option<()> {
+fn busy(answer: &mut Answer, shard: u64, number: u64) -> Option<()> {
     let busy = Busy {
         shard,
         finished: finished_of(shard, number).of(shard),
     };
-    write!(answer, "shard {}, turn {}", busy.shard, busy.finished.get()).ok()
+    answer.tell_number("shard ", busy.shard);
+    answer.tell_number(", turn ", busy.finished.get())
 }
 
 /// The subscription of a shard and a serial.
@@ -245,62 +240,53 @@ fn sub_of(shard: u64, serial: u64) -> SubId {
 }
 
 /// Makes a call of values that are numbers.
-pub fn number_call(answer: &mut String, call: &str, words: &Words<'_>) -> Option<()> {
+pub fn number_call(answer: &mut Answer, call: &str, words: &Words<'_>) -> Option<()> {
     let (first, second, third) = (words.number(0), words.number(1), words.number(2));
     match call {
-        "limit" => tell_number(answer, "", limit(words.at(0)) / limit(words.at(1)).max(1)),
+        "limit" => answer.tell_number("", limit(words.at(0)) / limit(words.at(1)).max(1)),
         "incarnation" => match Incarnation::new(first) {
-            None => tell(answer, "none"),
-            Some(inc) => tell_number(answer, "", inc.get()),
+            None => answer.tell("none"),
+            Some(inc) => answer.tell_number("", inc.get()),
         },
         "turn" => turn(answer, Turn::new(first)),
         "first_turn" => turn(answer, Some(Turn::zero())),
-        "finished" => tell_number(answer, "", finished_of(first, second).of(third).get()),
+        "finished" => answer.tell_number("", finished_of(first, second).of(third).get()),
         "busy" => busy(answer, first, second),
-        "conn" => tell_number(answer, "", ConnId::new(first).get()),
-        "same_conn" => tell_whether(answer, ConnId::new(first) == ConnId::new(second)),
-        "same_sub" => {
-            tell_whether(
-                answer,
-                sub_of(first, second) == sub_of(third, words.number(3)),
-            )
-        }
+        "conn" => answer.tell_number("", ConnId::new(first).get()),
+        "same_conn" => answer.tell_whether(ConnId::new(first) == ConnId::new(second)),
+        "same_sub" => answer.tell_whether(sub_of(first, second) == sub_of(third, words.number(3))),
         _ => None,
     }
 }
 
 /// Tells what is in a server.
-fn server_told(answer: &mut String, server: &ServerIdentity) -> Option<()> {
-    write!(
-        answer,
-        "{} at {}, incarnation {}, {} shards, {} servers",
-        server.name().text(),
-        server.me(),
-        server.inc().get(),
-        server.shards(),
-        server.names().len()
-    )
-    .ok()
+fn server_told(answer: &mut Answer, server: &ServerIdentity) -> Option<()> {
+    answer.tell(server.name().text());
+    answer.tell_number(" at ", server.me() as u64);
+    answer.tell_number(", incarnation ", server.inc().get());
+    answer.tell_number(", ", server.shards());
+    answer.tell_number(" shards, ", server.names().len() as u64);
+    answer.tell(" servers")
 }
 
 /// Tells a copy of a server.
-fn server_copy(answer: &mut String, alloc: Global, server: &ServerIdentity) -> Option<()> {
+fn server_copy(answer: &mut Answer, alloc: Global, server: &ServerIdentity) -> Option<()> {
     let copy = server.try_clone(alloc).ok()?;
     server_told(answer, &copy)
 }
 
 /// Tells the place of the server of this name.
-fn place(answer: &mut String, server: &ServerIdentity, name: &str) -> Option<()> {
+fn place(answer: &mut Answer, server: &ServerIdentity, name: &str) -> Option<()> {
     let name = NodeId::read(name.as_bytes()).ok()?;
     match server.place(name) {
-        None => tell(answer, "none"),
-        Some(place) => tell_number(answer, "", place as u64),
+        None => answer.tell("none"),
+        Some(place) => answer.tell_number("", place as u64),
     }
 }
 
 /// Makes a call of the server that the first words are.
 pub fn server_call(
-    answer: &mut String,
+    answer: &mut Answer,
     alloc: Global,
     call: &str,
     words: &Words<'_>,
@@ -313,13 +299,13 @@ pub fn server_call(
         words.number(2),
         words.number(3),
     ) else {
-        return tell(answer, "none");
+        return answer.tell("none");
     };
     match call {
-        "new" => tell(answer, "ok"),
+        "new" => answer.tell("ok"),
         "copy" => server_copy(answer, alloc, &server),
         "place" => place(answer, &server, words.at(4)),
-        "peer" => tell_whether(answer, server.is_peer(words.number(4) as usize)),
+        "peer" => answer.tell_whether(server.is_peer(words.number(4) as usize)),
         _ => None,
     }
 }
@@ -329,27 +315,36 @@ fn message_in(alloc: Global, words: &Words<'_>) -> Option<Message> {
     message_of(alloc, words.at(0), words.at(1), words.at(2))
 }
 
-/// Tells the subject, the reply and the payload of a copy of a message.
-fn message_copy(answer: &mut String, alloc: Global, words: &Words<'_>) -> Option<()> {
-    let copy = message_in(alloc, words)?.try_clone().ok()?;
-    push_shown(answer, copy.subject().bytes()).ok()?;
-    if let Some(reply) = copy.reply() {
-        tell_bytes(answer, " ", reply.bytes())?;
+/// Tells the subject, the reply and the payload of a message.
+fn message_told(answer: &mut Answer, message: &Message) -> Option<()> {
+    answer.tell_bytes("", message.subject().bytes());
+    if let Some(reply) = message.reply() {
+        answer.tell_bytes(" ", reply.bytes());
     }
-    tell_bytes(answer, " ", copy.payload().as_slice())
+    answer.tell_bytes(" ", message.payload().as_slice())
 }
 
-/// Tells the header block, the payload and both together of a copy of a message whose header block is the third word.
-fn headed_copy(answer: &mut String, alloc: Global, words: &Words<'_>) -> Option<()> {
+/// Tells a copy of a message.
+fn message_copy(answer: &mut Answer, alloc: Global, words: &Words<'_>) -> Option<()> {
+    let copy = message_in(alloc, words)?.try_clone().ok()?;
+    message_told(answer, &copy)
+}
+
+/// Tells the header block, the payload and both together of a message.
+fn headed_told(answer: &mut Answer, message: &Message) -> Option<()> {
+    answer.tell_bytes("[", message.headers()?);
+    answer.tell_bytes("] [", message.payload());
+    answer.tell_bytes("] [", message.whole());
+    answer.tell("]")
+}
+
+/// Tells a copy of a message whose header block is the third word.
+fn headed_copy(answer: &mut Answer, alloc: Global, words: &Words<'_>) -> Option<()> {
     let (subject, reply) = (words.at(0), words.at(1));
     let Some(message) = headed_message_of(alloc, subject, reply, words.at(2), words.at(3))? else {
-        return tell(answer, "none");
+        return answer.tell("none");
     };
-    let copy = message.try_clone().ok()?;
-    tell_bytes(answer, "[", copy.headers()?)?;
-    tell_bytes(answer, "] [", copy.payload())?;
-    tell_bytes(answer, "] [", copy.whole())?;
-    tell(answer, "]")
+    headed_told(answer, &message.try_clone().ok()?)
 }
 
 /// A publication on `foo` with a payload of so many bytes, of which there are at most two more than the limit.
@@ -361,10 +356,13 @@ fn sized_of(alloc: Global, size: u64) -> Option<Option<Pub>> {
 }
 
 /// Tells whether a payload of so many bytes can be published.
-fn sized(answer: &mut String, alloc: Global, size: u64) -> Option<()> {
+fn sized(answer: &mut Answer, alloc: Global, size: u64) -> Option<()> {
     match sized_of(alloc, size)? {
-        None => tell(answer, "none"),
-        Some(sized) => write!(answer, "{} bytes", sized.message.payload().len()).ok(),
+        None => answer.tell("none"),
+        Some(sized) => {
+            answer.tell_number("", sized.message.payload().len() as u64);
+            answer.tell(" bytes")
+        }
     }
 }
 
@@ -387,32 +385,34 @@ fn job_of(alloc: Global, words: &Words<'_>) -> Option<Job> {
     })
 }
 
+/// Whether a publisher's own subscriptions may get its message.
+fn echo_told(echo: bool) -> &'static str {
+    if echo { ", echo true" } else { ", echo false" }
+}
+
 /// Tells what is in a job beside its message.
-fn job_told(answer: &mut String, job: &Job) -> Option<()> {
+fn job_told(answer: &mut Answer, job: &Job) -> Option<()> {
     let publisher = job.publisher?.get();
-    write!(
-        answer,
-        "turn {}, number {} of {} in {}, publisher {}, echo {}, {} names",
-        job.turn.get(),
-        job.id.number,
-        job.id.origin.text(),
-        job.id.inc.get(),
-        publisher,
-        job.echo,
-        job.queues.as_slice().len()
-    )
-    .ok()
+    answer.tell_number("turn ", job.turn.get());
+    answer.tell_number(", number ", job.id.number);
+    answer.tell(" of ");
+    answer.tell(job.id.origin.text());
+    answer.tell_number(" in ", job.id.inc.get());
+    answer.tell_number(", publisher ", publisher);
+    answer.tell(echo_told(job.echo));
+    answer.tell_number(", ", job.queues.as_slice().len() as u64);
+    answer.tell(" names")
 }
 
 /// Tells a copy of the job that the words are.
-fn job_copy(answer: &mut String, alloc: Global, words: &Words<'_>) -> Option<()> {
+fn job_copy(answer: &mut Answer, alloc: Global, words: &Words<'_>) -> Option<()> {
     let copy = job_of(alloc, words)?.try_clone().ok()?;
     job_told(answer, &copy)
 }
 
 /// Makes a call of messages.
 pub fn message_call(
-    answer: &mut String,
+    answer: &mut Answer,
     alloc: Global,
     call: &str,
     words: &Words<'_>,
@@ -427,42 +427,39 @@ pub fn message_call(
 }
 
 /// Tells the fields of a text, each with a bar behind it.
-fn fields_told(answer: &mut String, alloc: Global, word: &str) -> Option<()> {
+fn fields_told(answer: &mut Answer, alloc: Global, word: &str) -> Option<()> {
     let bytes = bytes_of(alloc, word).ok()?;
     for field in &fields(alloc, &bytes).ok()? {
-        push_shown(answer, field).ok()?;
-        tell(answer, "|")?;
+        answer.tell_bytes("", field);
+        answer.tell("|");
     }
     Some(())
 }
 
 /// Tells the operation of a line, and what stands behind it.
-fn operation(answer: &mut String, alloc: Global, word: &str) -> Option<()> {
+fn operation(answer: &mut Answer, alloc: Global, word: &str) -> Option<()> {
     let bytes = bytes_of(alloc, word).ok()?;
     let Some((operation, behind)) = split_line(&bytes) else {
-        return tell(answer, "none");
+        return answer.tell("none");
     };
-    push_shown(answer, operation).ok()?;
-    tell_bytes(answer, "|", behind)
+    answer.tell_bytes("", operation);
+    answer.tell_bytes("|", behind)
 }
 
 /// Tells the number that a field of at most so many digits spells.
-fn digits(answer: &mut String, field: &str, most: u64) -> Option<()> {
+fn digits(answer: &mut Answer, field: &str, most: u64) -> Option<()> {
     if most > MAX_DIGITS as u64 {
         return None;
     }
-    tell_choice(answer, read_digits(field.as_bytes(), most as usize))
+    answer.tell_choice("", read_digits(field.as_bytes(), most as usize))
 }
 
 /// Makes a call of parts of lines.
-pub fn part_call(answer: &mut String, alloc: Global, call: &str, words: &Words<'_>) -> Option<()> {
+pub fn part_call(answer: &mut Answer, alloc: Global, call: &str, words: &Words<'_>) -> Option<()> {
     match call {
         "fields" => fields_told(answer, alloc, words.text),
         "operation" => operation(answer, alloc, words.text),
-        "word" => tell_whether(
-            answer,
-            is_word(words.at(0).as_bytes(), words.at(1).as_bytes()),
-        ),
+        "word" => answer.tell_whether(is_word(words.at(0).as_bytes(), words.at(1).as_bytes())),
         "digits" => digits(answer, words.at(0), words.number(1)),
         _ => None,
     }

@@ -3,15 +3,14 @@
 use crate::client::reply_of;
 use bytes::Bytes;
 use golden::{
-    Life, Words, bytes_of, headed_message_of, key_in, life_in, message_of, number, push_key,
-    push_shown, put, queues_of, sid_of, tell, tell_bytes, tell_number, tell_refusal,
+    Answer, Life, Words, bytes_of, headed_message_of, key_in, life_in, message_of, number, put,
+    queues_of, sid_of,
 };
 use route_frames::{
     Body, Numbered, RouteConnect, RouteFault, RouteFrame, RouteInfo, RouteLine, SnapshotKeys,
     WeightedKey, decode, encode, payload_size,
 };
 use std::alloc::Global;
-use std::fmt::Write;
 use std::mem;
 use subj::{Failure, Key, MAX_SNAPSHOT, Message, Pub, QueueName, ROUTE_LINE};
 use value_equality::{
@@ -94,27 +93,12 @@ fn publication_of(alloc: Global, queues: &str, message: Message) -> Option<Body>
     Some(Body::Msg { message, queues })
 }
 
-/// The body of a key that is there with its weight.
-fn plus_of(alloc: Global, word: &str) -> Option<Body> {
-    Some(Body::Plus(weighted_of(alloc, word)??))
-}
-
-/// The body of a key that is gone.
-fn minus_of(alloc: Global, word: &str) -> Option<Body> {
-    Some(Body::Minus(key_in(alloc, word)?))
-}
-
-/// The body of all keys.
-fn keys_of(alloc: Global, text: &str) -> Option<Body> {
-    Some(Body::Snapshot(snapshot_of(alloc, text)?))
-}
-
 /// What a numbered frame of this kind is to say.
 fn body_of(alloc: Global, kind: &str, words: &Words<'_>) -> Option<Body> {
     match kind {
-        "plus" => plus_of(alloc, words.at(3)),
-        "minus" => minus_of(alloc, words.at(3)),
-        "snapshot" => keys_of(alloc, words.at(3)),
+        "plus" => Some(Body::Plus(weighted_of(alloc, words.at(3))??)),
+        "minus" => Some(Body::Minus(key_in(alloc, words.at(3))?)),
+        "snapshot" => Some(Body::Snapshot(snapshot_of(alloc, words.at(3))?)),
         "msg" => publication_of(alloc, words.at(3), message_in(alloc, words.at(4))?),
         "hmsg" => publication_of(alloc, words.at(3), headed_message_in(alloc, words.at(4))?),
         _ => None,
@@ -150,45 +134,40 @@ fn connect_with(ends: &Ends) -> Option<RouteFrame> {
     Some(RouteFrame::Connect(connect))
 }
 
-/// The `INFO` of a server.
-fn info_with(life: Life) -> RouteFrame {
-    RouteFrame::Info(RouteInfo::new(life.name, life.inc))
-}
-
 /// The built frame stands from now on, where there may be such a one.
 fn build(
-    answer: &mut String,
+    answer: &mut Answer,
     place: &mut Option<RouteFrame>,
     frame: Option<RouteFrame>,
 ) -> Option<()> {
     let told = if frame.is_some() { "built" } else { "none" };
     put(place, frame);
-    tell(answer, told)
-}
-
-/// Builds the numbered frame that says this.
-fn build_numbered(
-    answer: &mut String,
-    place: &mut Option<RouteFrame>,
-    words: &Words<'_>,
-    body: Body,
-) -> Option<()> {
-    let ends = ends_in(words)?;
-    build(answer, place, numbered_with(&ends, body))
+    answer.tell(told)
 }
 
 /// Builds the frame of this kind.
 fn build_kind(
-    answer: &mut String,
+    answer: &mut Answer,
     place: &mut Option<RouteFrame>,
     alloc: Global,
     kind: &str,
     words: &Words<'_>,
 ) -> Option<()> {
     match kind {
-        "info" => build(answer, place, Some(info_with(life_in(words.at(0))?))),
+        "info" => {
+            let life = life_in(words.at(0))?;
+            let info = RouteInfo::new(life.name, life.inc);
+            build(answer, place, Some(RouteFrame::Info(info)))
+        }
         "connect" => build(answer, place, connect_with(&ends_in(words)?)),
-        _ => build_numbered(answer, place, words, body_of(alloc, kind, words)?),
+        _ => {
+            let ends = ends_in(words)?;
+            build(
+                answer,
+                place,
+                numbered_with(&ends, body_of(alloc, kind, words)?),
+            )
+        }
     }
 }
 
@@ -205,136 +184,115 @@ fn read_frame(alloc: Global, text: &str) -> Result<RouteFrame, Failure<RouteFaul
 }
 
 /// Tells the canonical spelling of a frame.
-fn tell_encoding(answer: &mut String, alloc: Global, frame: &RouteFrame) -> Option<()> {
+fn tell_encoding(answer: &mut Answer, alloc: Global, frame: &RouteFrame) -> Option<()> {
     let mut bytes = Vec::new(alloc);
     encode(frame, &mut bytes).ok()?;
-    push_shown(answer, &bytes).ok()
+    answer.tell_bytes("", &bytes)
 }
 
 /// The frame that is read stands from now on. Tells its canonical spelling, or the number by which it is refused.
 fn read(
-    answer: &mut String,
+    answer: &mut Answer,
     place: &mut Option<RouteFrame>,
     alloc: Global,
     text: &str,
 ) -> Option<()> {
     match read_frame(alloc, text) {
         Ok(frame) => {
-            tell_encoding(answer, alloc, &frame)?;
+            let told = tell_encoding(answer, alloc, &frame);
             put(place, Some(frame));
-            Some(())
+            told
         }
-        Err(Failure::Refused(fault)) => tell_refusal(answer, fault.number()),
+        Err(Failure::Refused(fault)) => answer.tell_refusal(fault.number()),
         Err(Failure::OutOfMemory) => None,
     }
 }
 
 /// Tells how many bytes of payload a line announces.
-fn size(answer: &mut String, alloc: Global, line: &str) -> Option<()> {
+fn size(answer: &mut Answer, alloc: Global, line: &str) -> Option<()> {
     let line = bytes_of(alloc, line).ok()?;
     match payload_size(alloc, &line) {
-        Ok(None) => tell(answer, "no payload"),
-        Ok(Some(size)) => tell_number(answer, "", size),
-        Err(Failure::Refused(fault)) => tell_refusal(answer, fault.number()),
+        Ok(None) => answer.tell("no payload"),
+        Ok(Some(size)) => answer.tell_number("", size),
+        Err(Failure::Refused(fault)) => answer.tell_refusal(fault.number()),
         Err(Failure::OutOfMemory) => None,
     }
 }
 
 /// Tells a key with its weight.
-fn weighted_told(answer: &mut String, key: &Key, weight: u64) -> Option<()> {
-    push_key(answer, key).ok()?;
-    tell_number(answer, " ", weight)
+fn weighted_told(answer: &mut Answer, key: &Key, weight: u64) -> Option<()> {
+    answer.tell_key("", key);
+    answer.tell_number(" ", weight)
 }
 
 /// Tells how many keys there are.
-fn keys_told(answer: &mut String, keys: &[WeightedKey]) -> Option<()> {
-    write!(answer, "{} keys", keys.len()).ok()
+fn keys_told(answer: &mut Answer, keys: &[WeightedKey]) -> Option<()> {
+    answer.tell_number("", keys.len() as u64);
+    answer.tell(" keys")
 }
 
 /// Tells how many queue names there are, and each in brackets.
-fn names_told(answer: &mut String, names: &[QueueName]) -> Option<()> {
-    write!(answer, ", {} names", names.len()).ok()?;
+fn names_told(answer: &mut Answer, names: &[QueueName]) -> Option<()> {
+    answer.tell_number(", ", names.len() as u64);
+    answer.tell(" names");
     for name in names {
-        tell_bytes(answer, " [", name.bytes())?;
-        tell(answer, "]")?;
+        answer.tell_bytes(" [", name.bytes());
+        answer.tell("]");
     }
     Some(())
 }
 
 /// Tells the subject of a message, that of the answer where one is awaited, the header block where there is one, and the payload.
-fn message_told(answer: &mut String, message: &Message) -> Option<()> {
-    tell_bytes(answer, "on ", message.subject().bytes())?;
+fn message_told(answer: &mut Answer, message: &Message) -> Option<()> {
+    answer.tell_bytes("on ", message.subject().bytes());
     if let Some(reply) = message.reply() {
-        tell_bytes(answer, ", answers to ", reply.bytes())?;
+        answer.tell_bytes(", answers to ", reply.bytes());
     }
     if let Some(block) = message.headers() {
-        tell_bytes(answer, ", headers ", block)?;
+        answer.tell_bytes(", headers ", block);
     }
-    tell_bytes(answer, ": ", message.payload().as_slice())
-}
-
-/// Tells a key that is gone.
-fn minus_told(answer: &mut String, key: &Key) -> Option<()> {
-    tell(answer, "gone: ")?;
-    push_key(answer, key).ok()
+    answer.tell_bytes(": ", message.payload().as_slice())
 }
 
 /// Tells what a numbered frame says.
-fn body_told(answer: &mut String, body: &Body) -> Option<()> {
+fn body_told(answer: &mut Answer, body: &Body) -> Option<()> {
     match body {
         Body::Plus(weighted) => weighted_told(answer, weighted.key(), weighted.weight()),
-        Body::Minus(key) => minus_told(answer, key),
+        Body::Minus(key) => answer.tell_key("gone: ", key),
         Body::Snapshot(keys) => keys_told(answer, keys.as_slice()),
         Body::Msg { message, queues } => {
-            message_told(answer, message)?;
+            message_told(answer, message);
             names_told(answer, queues.as_slice())
         }
     }
 }
 
 /// Tells whose a numbered frame is, and whose it is to be.
-fn ends_told(answer: &mut String, frame: &Numbered) -> Option<()> {
-    let (from, to) = (frame.from(), frame.to());
-    let (inc, to_inc) = (frame.inc().get(), frame.to_inc().get());
-    write!(answer, "{} {inc} to {} {to_inc}", from.text(), to.text()).ok()
+fn ends_told(answer: &mut Answer, frame: &Numbered) -> Option<()> {
+    answer.tell_life("", frame.from(), frame.inc());
+    answer.tell_life(" to ", frame.to(), frame.to_inc())
 }
 
 /// Tells who dialed whom, in which of their lives, and the serial.
-fn connect_told(answer: &mut String, connect: &RouteConnect) -> Option<()> {
-    let (from, to) = (connect.server_name(), connect.to());
-    let (inc, to_inc, serial) = (
-        connect.inc().get(),
-        connect.to_inc().get(),
-        connect.serial(),
-    );
-    write!(
-        answer,
-        "{} {inc} to {} {to_inc}, serial {serial}",
-        from.text(),
-        to.text()
-    )
-    .ok()
-}
-
-/// Tells who accepted, in which of its lives.
-fn info_told(answer: &mut String, info: &RouteInfo) -> Option<()> {
-    let name = info.server_name();
-    write!(answer, "{} {}", name.text(), info.inc().get()).ok()
+fn connect_told(answer: &mut Answer, connect: &RouteConnect) -> Option<()> {
+    answer.tell_life("", connect.server_name(), connect.inc());
+    answer.tell_life(" to ", connect.to(), connect.to_inc());
+    answer.tell_number(", serial ", connect.serial())
 }
 
 /// Tells a part of a frame.
-fn part_told(answer: &mut String, name: &str, frame: &RouteFrame) -> Option<()> {
+fn part_told(answer: &mut Answer, name: &str, frame: &RouteFrame) -> Option<()> {
     match frame {
-        RouteFrame::Info(info) => info_told(answer, info),
+        RouteFrame::Info(info) => answer.tell_life("", info.server_name(), info.inc()),
         RouteFrame::Connect(connect) => connect_told(answer, connect),
         RouteFrame::Numbered(frame) if name == "ends" => ends_told(answer, frame),
-        RouteFrame::Numbered(frame) if name == "number" => tell_number(answer, "", frame.number()),
+        RouteFrame::Numbered(frame) if name == "number" => answer.tell_number("", frame.number()),
         RouteFrame::Numbered(frame) => body_told(answer, frame.body()),
     }
 }
 
 /// Tells what the frame says, which is taken, out of it.
-fn into_body(answer: &mut String, place: &mut Option<RouteFrame>) -> Option<()> {
+fn into_body(answer: &mut Answer, place: &mut Option<RouteFrame>) -> Option<()> {
     match place.take()? {
         RouteFrame::Numbered(frame) => body_told(answer, &frame.into_body()),
         _ => None,
@@ -342,21 +300,21 @@ fn into_body(answer: &mut String, place: &mut Option<RouteFrame>) -> Option<()> 
 }
 
 /// Writes the frame behind what was written before, and tells all of it.
-fn write(answer: &mut String, routes: &mut Routes) -> Option<()> {
+fn write(answer: &mut Answer, routes: &mut Routes) -> Option<()> {
     encode(routes.frame.as_ref()?, &mut routes.written).ok()?;
-    push_shown(answer, &routes.written).ok()
+    answer.tell_bytes("", &routes.written)
 }
 
 /// A copy stands in place of the frame.
-fn copy(answer: &mut String, place: &mut Option<RouteFrame>, alloc: Global) -> Option<()> {
+fn copy(answer: &mut Answer, place: &mut Option<RouteFrame>, alloc: Global) -> Option<()> {
     let copy = place.as_ref()?.try_clone(alloc).ok()?;
     put(place, Some(copy));
-    tell(answer, "copied")
+    answer.tell("copied")
 }
 
 /// Makes a call about a frame.
 pub fn frame_call(
-    answer: &mut String,
+    answer: &mut Answer,
     routes: &mut Routes,
     alloc: Global,
     call: &str,
@@ -376,9 +334,9 @@ pub fn frame_call(
 }
 
 /// Tells a key with its weight, where it may have that; of a copy, in parts or whole, where that is asked for.
-pub fn weighted_call(answer: &mut String, alloc: Global, call: &str, word: &str) -> Option<()> {
+pub fn weighted_call(answer: &mut Answer, alloc: Global, call: &str, word: &str) -> Option<()> {
     let Some(weighted) = weighted_of(alloc, word)? else {
-        return tell(answer, "none");
+        return answer.tell("none");
     };
     match call {
         "new" => weighted_told(answer, weighted.key(), weighted.weight()),
@@ -388,13 +346,13 @@ pub fn weighted_call(answer: &mut String, alloc: Global, call: &str, word: &str)
 }
 
 /// Tells what a copy of a key with its weight is.
-fn weighted_copy(answer: &mut String, alloc: Global, weighted: &WeightedKey) -> Option<()> {
+fn weighted_copy(answer: &mut Answer, alloc: Global, weighted: &WeightedKey) -> Option<()> {
     let copy = weighted.try_clone(alloc).ok()?;
     weighted_told(answer, copy.key(), copy.weight())
 }
 
 /// Tells the parts that a key with its weight is taken into.
-fn weighted_parts(answer: &mut String, weighted: WeightedKey) -> Option<()> {
+fn weighted_parts(answer: &mut Answer, weighted: WeightedKey) -> Option<()> {
     let (key, weight) = weighted.into_parts();
     weighted_told(answer, &key, weight)
 }
@@ -414,14 +372,14 @@ fn gather_numbered(
 }
 
 /// Adds the keys of a text to those that are gathered, and tells how many there are.
-fn add(answer: &mut String, keys: &mut Vec<WeightedKey>, alloc: Global, text: &str) -> Option<()> {
+fn add(answer: &mut Answer, keys: &mut Vec<WeightedKey>, alloc: Global, text: &str) -> Option<()> {
     gather(keys, alloc, text)?;
     keys_told(answer, keys)
 }
 
 /// Adds so many keys to those that are gathered, and tells how many there are.
 fn add_numbered(
-    answer: &mut String,
+    answer: &mut Answer,
     keys: &mut Vec<WeightedKey>,
     alloc: Global,
     words: &Words<'_>,
@@ -431,60 +389,61 @@ fn add_numbered(
 }
 
 /// A snapshot of the gathered keys stands from now on, where there may be such a one.
-fn take(answer: &mut String, routes: &mut Routes, alloc: Global) -> Option<()> {
+fn take(answer: &mut Answer, routes: &mut Routes, alloc: Global) -> Option<()> {
     let keys = mem::replace(&mut routes.keys, Vec::new(alloc));
     put(&mut routes.snapshot, SnapshotKeys::from_keys(keys));
     match &routes.snapshot {
         Some(snapshot) => keys_told(answer, snapshot.as_slice()),
-        None => tell(answer, "none"),
+        None => answer.tell("none"),
     }
 }
 
 /// Tells the text of a snapshot.
-fn snapshot_text(answer: &mut String, alloc: Global, snapshot: &SnapshotKeys) -> Option<()> {
+fn snapshot_text(answer: &mut Answer, alloc: Global, snapshot: &SnapshotKeys) -> Option<()> {
     let mut bytes = Vec::new(alloc);
     snapshot.append_text(&mut bytes).ok()?;
-    push_shown(answer, &bytes).ok()
+    answer.tell_bytes("", &bytes)
 }
 
 /// A copy stands in place of the snapshot.
 fn snapshot_copy(
-    answer: &mut String,
+    answer: &mut Answer,
     place: &mut Option<SnapshotKeys>,
     alloc: Global,
 ) -> Option<()> {
     let copy = place.as_ref()?.try_clone(alloc).ok()?;
-    keys_told(answer, copy.as_slice())?;
+    keys_told(answer, copy.as_slice());
     put(place, Some(copy));
     Some(())
 }
 
 /// Tells keys, each in brackets.
-fn each_told(answer: &mut String, keys: &[WeightedKey]) -> Option<()> {
-    keys_told(answer, keys)?;
+fn each_told(answer: &mut Answer, keys: &[WeightedKey]) -> Option<()> {
+    keys_told(answer, keys);
     for weighted in keys {
-        tell(answer, " [")?;
-        weighted_told(answer, weighted.key(), weighted.weight())?;
-        tell(answer, "]")?;
+        answer.tell(" [");
+        weighted_told(answer, weighted.key(), weighted.weight());
+        answer.tell("]");
     }
     Some(())
 }
 
 /// Tells the keys, taken out of the snapshot, which is taken.
-fn into_keys(answer: &mut String, place: &mut Option<SnapshotKeys>) -> Option<()> {
+fn into_keys(answer: &mut Answer, place: &mut Option<SnapshotKeys>) -> Option<()> {
     let keys = place.take()?.into_keys();
     each_told(answer, &keys)
 }
 
 /// Builds the frame of the snapshot, which is taken.
-fn build_snapshot(answer: &mut String, routes: &mut Routes, words: &Words<'_>) -> Option<()> {
+fn build_snapshot(answer: &mut Answer, routes: &mut Routes, words: &Words<'_>) -> Option<()> {
+    let ends = ends_in(words)?;
     let body = Body::Snapshot(routes.snapshot.take()?);
-    build_numbered(answer, &mut routes.frame, words, body)
+    build(answer, &mut routes.frame, numbered_with(&ends, body))
 }
 
 /// Makes a call about a snapshot.
 pub fn snapshot_call(
-    answer: &mut String,
+    answer: &mut Answer,
     routes: &mut Routes,
     alloc: Global,
     call: &str,
@@ -496,7 +455,7 @@ pub fn snapshot_call(
         "take" => take(answer, routes, alloc),
         "copy" => snapshot_copy(answer, &mut routes.snapshot, alloc),
         "text" => snapshot_text(answer, alloc, routes.snapshot.as_ref()?),
-        "text_len" => tell_number(answer, "", routes.snapshot.as_ref()?.text_len() as u64),
+        "text_len" => answer.tell_number("", routes.snapshot.as_ref()?.text_len() as u64),
         "into_keys" => into_keys(answer, &mut routes.snapshot),
         "frame" => build_snapshot(answer, routes, words),
         _ => None,
@@ -610,10 +569,10 @@ impl Encoding {
 }
 
 /// Tells the encodings of the frames of a stream.
-fn encodings_told(answer: &mut String, alloc: Global, stream: &[u8], part: usize) -> Option<()> {
+fn encodings_told(answer: &mut Answer, alloc: Global, stream: &[u8], part: usize) -> Option<()> {
     let mut encoding = Encoding::new(alloc);
     match encoding.encode_all(alloc, stream, part) {
-        Some(encoded) => push_shown(answer, encoded).ok(),
+        Some(encoded) => answer.tell_bytes("", encoded),
         None => None,
     }
 }
@@ -628,17 +587,19 @@ fn has_no_frame(alloc: Global, stream: &[u8], part: usize) -> bool {
 }
 
 /// Tells how many beginnings of a stream there are, if none has a whole frame; else the first that is otherwise.
-fn beginnings(answer: &mut String, alloc: Global, stream: &[u8], part: usize) -> Option<()> {
+fn beginnings(answer: &mut Answer, alloc: Global, stream: &[u8], part: usize) -> Option<()> {
     for len in 0..stream.len() {
         if !has_no_frame(alloc, &stream[..len], part) {
-            return write!(answer, "otherwise behind {len} bytes").ok();
+            answer.tell_number("otherwise behind ", len as u64);
+            return answer.tell(" bytes");
         }
     }
-    write!(answer, "{} beginnings, no frame", stream.len()).ok()
+    answer.tell_number("", stream.len() as u64);
+    answer.tell(" beginnings, no frame")
 }
 
 /// Makes a call about a stream: the parts that it comes in stand before it.
-pub fn stream_call(answer: &mut String, alloc: Global, call: &str, text: &str) -> Option<()> {
+pub fn stream_call(answer: &mut Answer, alloc: Global, call: &str, text: &str) -> Option<()> {
     let (part, stream) = text.split_once('|')?;
     let stream = bytes_of(alloc, stream).ok()?;
     match call {
@@ -749,7 +710,7 @@ fn are_same_values(alloc: Global, kind: &str, text: &str) -> Option<bool> {
 }
 
 /// Tells whether two values of this kind are the same, or a value and its copy.
-pub fn same_call(answer: &mut String, alloc: Global, kind: &str, text: &str) -> Option<()> {
+pub fn same_call(answer: &mut Answer, alloc: Global, kind: &str, text: &str) -> Option<()> {
     let same = are_same_values(alloc, kind, text)?;
-    tell(answer, if same { "same" } else { "differ" })
+    answer.tell(if same { "same" } else { "differ" })
 }

@@ -1,8 +1,6 @@
 //! Calls of streams: where bytes come from and go to, and what is cut from them. A line `pN` announces a payload of N bytes.
 
-use golden::{
-    Words, bytes_of, push_shown, put, tell, tell_bytes, tell_number, tell_refusal, tell_whether,
-};
+use golden::{Answer, Words, bytes_of, put};
 use line_fields::read_digits;
 use std::alloc::Global;
 use std::io;
@@ -56,28 +54,24 @@ fn announced_size(line: &[u8]) -> Option<u64> {
     read_digits(digits, SIZE_DIGITS)
 }
 
-/// Notes bytes between two marks. Where memory is short the log is not what was written for it.
-fn note(log: &mut String, open: &str, bytes: &[u8], close: &str) {
-    let _noted = tell_bytes(log, open, bytes);
-    let _noted = tell(log, close);
-}
-
 /// Notes a piece. Gives the size that it announces.
-fn note_piece(log: &mut String, piece: Piece<'_>) -> Option<u64> {
+fn note_piece(log: &mut Answer, piece: Piece<'_>) -> Option<u64> {
     match piece {
         Piece::Payload(payload) => {
-            note(log, "[", payload, "]");
+            log.tell_bytes("[", payload);
+            log.tell("]");
             None
         }
         Piece::Line(line) => {
-            note(log, "<", line, ">");
+            log.tell_bytes("<", line);
+            log.tell(">");
             announced_size(line)
         }
     }
 }
 
 /// Takes a piece and notes it. Gives the size that it announces; none where there is no piece.
-fn next_size(cutter: &mut Cutter, log: &mut String) -> Result<Option<Option<u64>>, CutFault> {
+fn next_size(cutter: &mut Cutter, log: &mut Answer) -> Result<Option<Option<u64>>, CutFault> {
     match cutter.next()? {
         None => Ok(None),
         Some(piece) => Ok(Some(note_piece(log, piece))),
@@ -93,7 +87,7 @@ fn announce(cutter: &mut Cutter, size: u64) -> Result<(), CutFault> {
 }
 
 /// Takes a piece, and announces what it announces. Gives whether there may be more.
-fn take(cutter: &mut Cutter, log: &mut String) -> Result<bool, CutFault> {
+fn take(cutter: &mut Cutter, log: &mut Answer) -> Result<bool, CutFault> {
     match next_size(cutter, log)? {
         None => return Ok(false),
         Some(None) => {}
@@ -103,65 +97,65 @@ fn take(cutter: &mut Cutter, log: &mut String) -> Result<bool, CutFault> {
 }
 
 /// Takes pieces until none comes, and notes them and a fault.
-fn take_all(cutter: &mut Cutter, log: &mut String) -> Option<()> {
+fn take_all(cutter: &mut Cutter, log: &mut Answer) -> Option<()> {
     for _piece in 0..u64::MAX {
         match take(cutter, log) {
             Ok(true) => {}
-            Ok(false) => return Some(()),
-            Err(fault) => return tell_number(log, "!", u64::from(fault.number())),
+            Ok(false) => break,
+            Err(fault) => return log.tell_number("!", u64::from(fault.number())),
         }
     }
-    Some(())
+    log.so_far()
 }
 
 /// Tells the next piece.
-fn next(answer: &mut String, cutter: &mut Cutter) -> Option<()> {
+fn next(answer: &mut Answer, cutter: &mut Cutter) -> Option<()> {
     match next_size(cutter, answer) {
-        Ok(None) => tell(answer, "none"),
+        Ok(None) => answer.tell("none"),
         Ok(Some(_)) => Some(()),
-        Err(fault) => tell_refusal(answer, fault.number()),
+        Err(fault) => answer.tell_refusal(fault.number()),
     }
 }
 
 /// Announces a payload.
-fn expect(answer: &mut String, cutter: &mut Cutter, size: u64) -> Option<()> {
+fn expect(answer: &mut Answer, cutter: &mut Cutter, size: u64) -> Option<()> {
     if !cutter.after_line() {
         return None;
     }
     match cutter.expect(size) {
-        Ok(()) => tell(answer, "ok"),
-        Err(fault) => tell_refusal(answer, fault.number()),
+        Ok(()) => answer.tell("ok"),
+        Err(fault) => answer.tell_refusal(fault.number()),
     }
 }
 
 /// Feeds the cutter.
-fn feed(answer: &mut String, cutter: &mut Cutter, bytes: &[u8]) -> Option<()> {
+fn feed(answer: &mut Answer, cutter: &mut Cutter, bytes: &[u8]) -> Option<()> {
     match cutter.feed(bytes) {
-        Ok(()) => tell(answer, "ok"),
-        Err(FeedFault::Cut(fault)) => tell_refusal(answer, fault.number()),
+        Ok(()) => answer.tell("ok"),
+        Err(FeedFault::Cut(fault)) => answer.tell_refusal(fault.number()),
         Err(FeedFault::OutOfMemory) => None,
     }
 }
 
 /// Has the cutter read from a source.
-fn fill<S: Source>(answer: &mut String, cutter: &mut Cutter, source: &mut S) -> Option<()> {
+fn fill<S: Source>(answer: &mut Answer, cutter: &mut Cutter, source: &mut S) -> Option<()> {
     match cutter.read_from(source, 64) {
-        Ok(count) => tell_number(answer, "", count as u64),
-        Err(FillFault::Cut(fault)) => tell_refusal(answer, fault.number()),
-        Err(FillFault::Read) => tell(answer, "failed"),
+        Ok(count) => answer.tell_number("", count as u64),
+        Err(FillFault::Cut(fault)) => answer.tell_refusal(fault.number()),
+        Err(FillFault::Read) => answer.tell("failed"),
         Err(FillFault::OutOfMemory) => None,
     }
 }
 
 /// A cutter to which nothing was fed takes the place of the one that stands.
-fn renew(answer: &mut String, cutter: &mut Cutter, alloc: Global) -> Option<()> {
+fn renew(answer: &mut Answer, cutter: &mut Cutter, alloc: Global) -> Option<()> {
     put(cutter, new_cutter(alloc));
-    tell(answer, "ok")
+    answer.tell("ok")
 }
 
 /// Makes a call of the cutter.
 pub fn cutter_call(
-    answer: &mut String,
+    answer: &mut Answer,
     streams: &mut Streams,
     alloc: Global,
     call: &str,
@@ -175,41 +169,41 @@ pub fn cutter_call(
         "next" => next(answer, cutter),
         "take" => take_all(cutter, answer),
         "expect" => expect(answer, cutter, words.number(0)),
-        "after_line" => tell_whether(answer, cutter.after_line()),
-        "held" => tell_number(answer, "", cutter.held() as u64),
+        "after_line" => answer.tell_whether(cutter.after_line()),
+        "held" => answer.tell_number("", cutter.held() as u64),
         _ => None,
     }
 }
 
 /// Feeds the bytes, and takes what comes of them.
-fn feed_and_take(cutter: &mut Cutter, log: &mut String, bytes: &[u8]) -> Option<()> {
+fn feed_and_take(cutter: &mut Cutter, log: &mut Answer, bytes: &[u8]) -> Option<()> {
     if cutter.feed(bytes).is_err() {
-        tell(log, "not fed")?;
+        log.tell("not fed");
     }
     take_all(cutter, log)
 }
 
 /// Tells what comes of a stream that is fed in these words.
-fn feeds(answer: &mut String, alloc: Global, words: &str) -> Option<()> {
+fn feeds(answer: &mut Answer, alloc: Global, words: &str) -> Option<()> {
     let mut cutter = new_cutter(alloc);
     for word in words.split('|') {
-        feed_and_take(&mut cutter, answer, &bytes_of(alloc, word).ok()?)?;
+        feed_and_take(&mut cutter, answer, &bytes_of(alloc, word).ok()?);
     }
     Some(())
 }
 
 /// Puts what comes of a stream that is fed in two parts, cut at this place.
-fn put_halves(log: &mut String, alloc: Global, stream: &[u8], at: usize) -> Option<()> {
+fn put_halves(log: &mut Answer, alloc: Global, stream: &[u8], at: usize) -> Option<()> {
     let (first, rest) = stream.split_at(at.min(stream.len()));
     let mut cutter = new_cutter(alloc);
-    feed_and_take(&mut cutter, log, first)?;
+    feed_and_take(&mut cutter, log, first);
     feed_and_take(&mut cutter, log, rest)
 }
 
 /// Reads from a source until its end, and takes what comes.
 fn take_read(
     cutter: &mut Cutter,
-    log: &mut String,
+    log: &mut Answer,
     source: &mut MemSource,
     reads: usize,
 ) -> Option<()> {
@@ -217,28 +211,33 @@ fn take_read(
         if cutter.read_from(source, 64) == Ok(0) {
             break;
         }
-        take_all(cutter, log)?;
+        take_all(cutter, log);
     }
-    if cutter.held() > 0 {
-        tell(log, ", and some is held")?;
-    }
-    Some(())
+    log.tell(if cutter.held() > 0 {
+        ", and some is held"
+    } else {
+        ""
+    })
 }
 
 /// Puts what comes of a stream of which at most so many bytes come a read, at least one.
-fn put_reads(log: &mut String, alloc: Global, stream: &[u8], most: usize) -> Option<()> {
+fn put_reads(log: &mut Answer, alloc: Global, stream: &[u8], most: usize) -> Option<()> {
     let mut source = MemSource::new(stream.to_vec(alloc).ok()?).at_most(most.max(1));
     take_read(&mut new_cutter(alloc), log, &mut source, stream.len())
 }
 
-/// What comes of a stream, in two parts that are cut at this place or in reads of at most so many bytes.
-fn parts(alloc: Global, call: &str, stream: &[u8], at: usize) -> Option<String> {
-    let mut log = String::new(alloc);
-    if call == "halves" {
-        put_halves(&mut log, alloc, stream, at)?;
-    } else {
-        put_reads(&mut log, alloc, stream, at)?;
+/// Puts what comes of a stream, in two parts that are cut at this place or in reads of at most so many bytes.
+fn put_parts(log: &mut Answer, alloc: Global, call: &str, stream: &[u8], at: usize) -> Option<()> {
+    match call {
+        "halves" => put_halves(log, alloc, stream, at),
+        _ => put_reads(log, alloc, stream, at),
     }
+}
+
+/// What comes of a stream in such parts.
+fn parts(alloc: Global, call: &str, stream: &[u8], at: usize) -> Option<Answer> {
+    let mut log = Answer::new(alloc);
+    put_parts(&mut log, alloc, call, stream, at)?;
     Some(log)
 }
 
@@ -250,19 +249,30 @@ fn is_so(alloc: Global, call: &str, stream: &[u8], at: usize, whole: &str) -> bo
     }
 }
 
-/// Tells what comes of a stream, where it is the same in any two parts or in reads of any size.
-fn alike(answer: &mut String, alloc: Global, call: &str, stream: &[u8]) -> Option<()> {
-    let whole = parts(alloc, call, stream, stream.len())?;
+/// Tells what comes of a stream, where it is this in any two parts or in reads of any size.
+fn same_told(
+    answer: &mut Answer,
+    alloc: Global,
+    call: &str,
+    stream: &[u8],
+    whole: &str,
+) -> Option<()> {
     for at in 0..=stream.len() {
-        if !is_so(alloc, call, stream, at, whole.as_str()) {
-            return tell_number(answer, "otherwise at ", at as u64);
+        if !is_so(alloc, call, stream, at, whole) {
+            return answer.tell_number("otherwise at ", at as u64);
         }
     }
-    tell(answer, whole.as_str())
+    answer.tell(whole)
+}
+
+/// Tells what comes of a stream, where it is the same in all parts.
+fn alike(answer: &mut Answer, alloc: Global, call: &str, stream: &[u8]) -> Option<()> {
+    let whole = parts(alloc, call, stream, stream.len())?;
+    same_told(answer, alloc, call, stream, whole.as_str())
 }
 
 /// Makes a call of streams that are cut, each by a cutter of its own.
-pub fn cut_call(answer: &mut String, alloc: Global, call: &str, words: &Words<'_>) -> Option<()> {
+pub fn cut_call(answer: &mut Answer, alloc: Global, call: &str, words: &Words<'_>) -> Option<()> {
     match call {
         "feeds" => feeds(answer, alloc, words.text),
         "halves" | "reads" => alike(answer, alloc, call, &bytes_of(alloc, words.text).ok()?),
@@ -280,13 +290,13 @@ fn source_of(alloc: Global, words: &Words<'_>) -> Option<MemSource> {
 }
 
 /// Reads once into the buffer. Tells how much was read, and what stands there.
-fn read_once(answer: &mut String, streams: &mut Streams) -> Option<()> {
+fn read_once(answer: &mut Answer, streams: &mut Streams) -> Option<()> {
     match streams.source.read(&mut streams.buffer) {
         Ok(count) => {
-            tell_number(answer, "", count as u64)?;
-            tell_bytes(answer, ": ", &streams.buffer)
+            answer.tell_number("", count as u64);
+            answer.tell_bytes(": ", &streams.buffer)
         }
-        Err(_) => tell(answer, "failed"),
+        Err(_) => answer.tell("failed"),
     }
 }
 
@@ -304,29 +314,29 @@ fn read_all<S: Source>(bytes: &mut Vec<u8>, source: &mut S) -> Option<bool> {
 }
 
 /// Tells all that a source gives.
-fn all_told<S: Source>(answer: &mut String, alloc: Global, source: &mut S) -> Option<()> {
+fn all_told<S: Source>(answer: &mut Answer, alloc: Global, source: &mut S) -> Option<()> {
     let mut bytes = Vec::new(alloc);
     if read_all(&mut bytes, source)? {
-        push_shown(answer, &bytes).ok()
+        answer.tell_bytes("", &bytes)
     } else {
-        tell(answer, "failed")
+        answer.tell("failed")
     }
 }
 
 /// A source takes the place of the one that stands.
 fn renew_source(
-    answer: &mut String,
+    answer: &mut Answer,
     source: &mut MemSource,
     alloc: Global,
     words: &Words<'_>,
 ) -> Option<()> {
     put(source, source_of(alloc, words)?);
-    tell(answer, "ok")
+    answer.tell("ok")
 }
 
 /// Makes a call of the source.
 pub fn source_call(
-    answer: &mut String,
+    answer: &mut Answer,
     streams: &mut Streams,
     alloc: Global,
     call: &str,
@@ -351,7 +361,7 @@ fn sink_of(alloc: Global, most: usize, failing: u64) -> MemSink {
 
 /// A sink takes the place of the one that stands.
 fn renew_sink(
-    answer: &mut String,
+    answer: &mut Answer,
     sink: &mut MemSink,
     alloc: Global,
     words: &Words<'_>,
@@ -360,20 +370,20 @@ fn renew_sink(
         sink,
         sink_of(alloc, words.number(0) as usize, words.number(1)),
     );
-    tell(answer, "ok")
+    answer.tell("ok")
 }
 
 /// Writes once. Tells how much was taken.
-fn write_once(answer: &mut String, sink: &mut MemSink, bytes: &[u8]) -> Option<()> {
+fn write_once(answer: &mut Answer, sink: &mut MemSink, bytes: &[u8]) -> Option<()> {
     match sink.write(bytes) {
-        Ok(count) => tell_number(answer, "", count as u64),
-        Err(WriteFailed) => tell(answer, "failed"),
+        Ok(count) => answer.tell_number("", count as u64),
+        Err(WriteFailed) => answer.tell("failed"),
     }
 }
 
 /// Whether something was done.
-fn whether_done(answer: &mut String, is_done: bool) -> Option<()> {
-    tell(answer, if is_done { "ok" } else { "failed" })
+fn whether_done(answer: &mut Answer, is_done: bool) -> Option<()> {
+    answer.tell(if is_done { "ok" } else { "failed" })
 }
 
 /// Writes each of the words, through the bound, up to a write that fails.
@@ -385,14 +395,14 @@ fn write_words<W: Sink>(sink: &mut W, words: &str) -> Result<(), WriteFailed> {
 }
 
 /// Tells all that the sink took, in brackets.
-fn taken(answer: &mut String, sink: &MemSink) -> Option<()> {
-    tell_bytes(answer, "[", sink.bytes())?;
-    tell(answer, "]")
+fn taken(answer: &mut Answer, sink: &MemSink) -> Option<()> {
+    answer.tell_bytes("[", sink.bytes());
+    answer.tell("]")
 }
 
 /// Makes a call of the sink.
 pub fn sink_call(
-    answer: &mut String,
+    answer: &mut Answer,
     sink: &mut Streams,
     alloc: Global,
     call: &str,
@@ -409,20 +419,20 @@ pub fn sink_call(
 }
 
 /// Tells what a reader over bytes gives, and whether it has some left.
-fn raw_read(answer: &mut String, alloc: Global, bytes: &[u8]) -> Option<()> {
+fn raw_read(answer: &mut Answer, alloc: Global, bytes: &[u8]) -> Option<()> {
     let mut source = Raw::new(bytes);
     all_told(answer, alloc, &mut source)?;
     if source.into_inner().is_empty() {
         return Some(());
     }
-    tell(answer, ", and some is left")
+    answer.tell(", and some is left")
 }
 
 /// Tells what a writer into a list has of the words.
-fn raw_write(answer: &mut String, alloc: Global, words: &str) -> Option<()> {
+fn raw_write(answer: &mut Answer, alloc: Global, words: &str) -> Option<()> {
     let mut sink = Raw::new(Vec::new(alloc));
     write_words(&mut sink, words).ok()?;
-    push_shown(answer, &sink.into_inner()).ok()
+    answer.tell_bytes("", &sink.into_inner())
 }
 
 /// A reader and writer that fails at every call, or takes nothing.
@@ -451,24 +461,29 @@ impl Write for Broken {
 }
 
 /// Has a cutter read once from what is broken.
-fn broken_cut(answer: &mut String, alloc: Global, broken: &mut Raw<Broken>) -> Option<()> {
+fn broken_cut(answer: &mut Answer, alloc: Global, broken: &mut Raw<Broken>) -> Option<()> {
     let mut cutter = new_cutter(alloc);
-    fill(answer, &mut cutter, broken)?;
-    tell_number(answer, ", held ", cutter.held() as u64)
+    fill(answer, &mut cutter, broken);
+    answer.tell_number(", held ", cutter.held() as u64)
 }
 
-/// Makes a call of a reader or a writer of std.
-pub fn raw_call(answer: &mut String, alloc: Global, call: &str, words: &Words<'_>) -> Option<()> {
-    let mut broken = Raw::new(Broken {
-        takes_none: words.text == "takes none",
-    });
+/// Makes a call of a reader and writer that is broken.
+fn broken_call(answer: &mut Answer, alloc: Global, call: &str, takes_none: bool) -> Option<()> {
+    let mut broken = Raw::new(Broken { takes_none });
     match call {
-        "read" => raw_read(answer, alloc, words.text.as_bytes()),
-        "write" => raw_write(answer, alloc, words.text),
         "read_broken" => whether_done(answer, broken.read(&mut [0u8; 3]).is_ok()),
         "cut_broken" => broken_cut(answer, alloc, &mut broken),
         "write_broken" => whether_done(answer, broken.write(b"a").is_ok()),
         "write_all_broken" => whether_done(answer, broken.write_all(b"a").is_ok()),
         _ => None,
+    }
+}
+
+/// Makes a call of a reader or a writer of std.
+pub fn raw_call(answer: &mut Answer, alloc: Global, call: &str, words: &Words<'_>) -> Option<()> {
+    match call {
+        "read" => raw_read(answer, alloc, words.text.as_bytes()),
+        "write" => raw_write(answer, alloc, words.text),
+        _ => broken_call(answer, alloc, call, words.text == "takes none"),
     }
 }

@@ -1,18 +1,99 @@
 //! Calls of tables of subscriptions: the one that is scanned, the one that is found by tokens, and drawn lists of calls on both, which have
 //! to answer alike.
 
-use crate::guarded::Opened;
-use golden::{
-    Words, key_of, push_key, put, sid_of, subject_of, tell, tell_bytes, tell_choice, tell_number,
-    tell_whether,
-};
+ghost use Rattle.std.specs.Prelude.{◌≤◌, All};
+
+use golden::{Answer, Words, key_of, put, sid_of, subject_of};
 use rand_core::utils::NextWord;
 use rand_pcg::Pcg32;
-use std::alloc::Global;
-use std::fmt::Write;
+use std::alloc::{AllocError, Global};
 use sub_table::{ListTable, SubTable, Subscription};
 use sub_trie::TrieTable;
 use subj::{ConnId, Key, Pattern, Sid, Subject};
+
+/// A table, and the last serial that was opened in it.
+#[derive(Drop)]
+pub struct Opened<T: SubTable> {
+    table: T,
+    last: u64,
+    ghost below: { All (λ other. other.serial ≤ last) (T.contents table) },
+}
+
+impl<T: SubTable> Opened<T> {
+    /// A table without subscriptions.
+    fn new(alloc: Global) -> Result<Opened<T>, AllocError> {
+        let table = T::new(alloc)?;
+        Ok(Opened { table, last: 0 })
+    }
+
+    /// The table as it is.
+    fn table(&self) -> &T {
+        &self.table
+    }
+
+    /// The last serial that was opened, 0 before the first.
+    fn last(&self) -> u64 {
+        self.last
+    }
+
+    /// Opens one more. Gives whether its serial is above all others.
+    fn open(&mut self, sub: Subscription) -> Result<bool, AllocError> {
+        let serial = sub.serial;
+        if serial <= self.last {
+            return Ok(false);
+        }
+        self.table.add(sub)?;
+        self.last = serial;
+        Ok(true)
+    }
+
+    /// Closes the one of this serial, and gives it.
+    #[tactic(auto, using(crate::proofs::Below::below_without))]
+    fn remove(&mut self, serial: u64) -> Option<Subscription> {
+        self.table.remove(serial)
+    }
+
+    /// Closes those of a connection.
+    #[tactic(auto, using(crate::proofs::Below::below_filter))]
+    fn close(&mut self, conn: u64) {
+        self.table.close(ConnId::new(conn));
+    }
+
+    /// Counts one more message that the one of this serial got. Gives whether there is one whose count may rise.
+    fn count(&mut self, serial: u64) -> bool {
+        let Some(sub) = self.table.get(serial) else {
+            return false;
+        };
+        if sub.delivered >= u64::MAX {
+            return false;
+        }
+        self.table.count(serial);
+        true
+    }
+
+    /// Counts so many messages more that the one of this serial got. Gives whether there is one whose count may rise so far.
+    fn count_many(&mut self, serial: u64, count: u64) -> bool {
+        let Some(sub) = self.table.get(serial) else {
+            return false;
+        };
+        if sub.delivered > u64::MAX - count {
+            return false;
+        }
+        self.table.count_many(serial, count);
+        true
+    }
+
+    /// Notes how many messages the one of this serial is to get.
+    #[tactic(auto, using(crate::proofs::Below::below_max))]
+    fn set_max(&mut self, serial: u64, max: Option<u64>) {
+        self.table.set_max(serial, max);
+    }
+
+    /// Tells that the subject will be looked up.
+    fn remember(&mut self, subject: &Subject) {
+        self.table.remember(subject);
+    }
+}
 
 /// The subscription of a serial, a connection, a pattern, a queue name or none, and an id.
 fn subscription_of(alloc: Global, words: &Words<'_>) -> Option<Subscription> {
@@ -30,58 +111,59 @@ fn subscription_of(alloc: Global, words: &Words<'_>) -> Option<Subscription> {
 
 /// Opens a subscription.
 fn open<T: SubTable>(
-    answer: &mut String,
+    answer: &mut Answer,
     opened: &mut Opened<T>,
     alloc: Global,
     words: &Words<'_>,
 ) -> Option<()> {
     let is_next = opened.open(subscription_of(alloc, words)?).ok()?;
-    tell(answer, if is_next { "ok" } else { "no serial" })
+    answer.tell(if is_next { "ok" } else { "no serial" })
 }
 
 /// Tells of a subscription that may be open.
-fn sub_told(answer: &mut String, sub: Option<&Subscription>) -> Option<()> {
+fn sub_told(answer: &mut Answer, sub: Option<&Subscription>) -> Option<()> {
     let Some(sub) = sub else {
-        return tell(answer, "none");
+        return answer.tell("none");
     };
-    write!(answer, "{} of conn {}: ", sub.serial, sub.conn.get()).ok()?;
-    push_key(answer, &sub.key).ok()?;
-    tell_bytes(answer, ", id ", sub.sid.bytes())
+    answer.tell_number("", sub.serial);
+    answer.tell_number(" of conn ", sub.conn.get());
+    answer.tell_key(": ", &sub.key);
+    answer.tell_bytes(", id ", sub.sid.bytes())
 }
 
 /// Closes the one of this serial, and tells it.
-fn remove<T: SubTable>(answer: &mut String, opened: &mut Opened<T>, serial: u64) -> Option<()> {
+fn remove<T: SubTable>(answer: &mut Answer, opened: &mut Opened<T>, serial: u64) -> Option<()> {
     let closed = opened.remove(serial);
     sub_told(answer, closed.as_ref())
 }
 
 /// Tells the serials of these.
-fn subs_told(answer: &mut String, subs: &[&Subscription]) -> Option<()> {
-    tell(answer, "serials")?;
+fn subs_told(answer: &mut Answer, subs: &[&Subscription]) -> Option<()> {
+    answer.tell("serials");
     for sub in subs {
-        tell_number(answer, " ", sub.serial)?;
+        answer.tell_number(" ", sub.serial);
     }
     Some(())
 }
 
 /// Tells the serials of those that match.
-fn matching<T: SubTable>(answer: &mut String, table: &T, alloc: Global, word: &str) -> Option<()> {
+fn matching<T: SubTable>(answer: &mut Answer, table: &T, alloc: Global, word: &str) -> Option<()> {
     let subject = subject_of(alloc, word)?;
     let subs = table.matching(&subject).ok()?;
     subs_told(answer, &subs)
 }
 
 /// Tells serials.
-fn serials_told(answer: &mut String, serials: &[u64]) -> Option<()> {
-    tell(answer, "serials")?;
+fn serials_told(answer: &mut Answer, serials: &[u64]) -> Option<()> {
+    answer.tell("serials");
     for serial in serials {
-        tell_number(answer, " ", *serial)?;
+        answer.tell_number(" ", *serial);
     }
     Some(())
 }
 
 /// Tells the serials of a connection's, behind a 77 that was there.
-fn serials_of<T: SubTable>(answer: &mut String, table: &T, alloc: Global, conn: u64) -> Option<()> {
+fn serials_of<T: SubTable>(answer: &mut Answer, table: &T, alloc: Global, conn: u64) -> Option<()> {
     let mut serials = Vec::from_slice(alloc, &[77]).ok()?;
     table.serials_of(ConnId::new(conn), &mut serials).ok()?;
     serials_told(answer, &serials)
@@ -89,38 +171,35 @@ fn serials_of<T: SubTable>(answer: &mut String, table: &T, alloc: Global, conn: 
 
 /// Tells the serial of what a connection calls by an id.
 fn find<T: SubTable>(
-    answer: &mut String,
+    answer: &mut Answer,
     table: &T,
     alloc: Global,
     words: &Words<'_>,
 ) -> Option<()> {
     let sid = sid_of(alloc, words.at(1))?;
-    tell_choice(answer, table.find(ConnId::new(words.number(0)), &sid))
+    answer.tell_choice("", table.find(ConnId::new(words.number(0)), &sid))
 }
 
 /// Tells how many messages one got and is to get.
-fn counts_told(answer: &mut String, sub: Option<&Subscription>) -> Option<()> {
+fn counts_told(answer: &mut Answer, sub: Option<&Subscription>) -> Option<()> {
     let Some(sub) = sub else {
-        return tell(answer, "none");
+        return answer.tell("none");
     };
-    tell_number(answer, "", sub.delivered)?;
-    match sub.max {
-        None => Some(()),
-        Some(max) => tell_number(answer, " of ", max),
-    }
+    answer.tell_number("", sub.delivered);
+    answer.tell_any(" of ", sub.max)
 }
 
 /// Makes a call that leaves the table as it is.
 fn seen<T: SubTable>(
-    answer: &mut String,
+    answer: &mut Answer,
     table: &T,
     alloc: Global,
     call: &str,
     words: &Words<'_>,
 ) -> Option<()> {
     match call {
-        "len" => tell_number(answer, "", table.len() as u64),
-        "fits" => tell_whether(answer, table.fits(words.number(0), words.number(1))),
+        "len" => answer.tell_number("", table.len() as u64),
+        "fits" => answer.tell_whether(table.fits(words.number(0), words.number(1))),
         "get" => sub_told(answer, table.get(words.number(0))),
         "counts" => counts_told(answer, table.get(words.number(0))),
         "find" => find(answer, table, alloc, words),
@@ -138,22 +217,26 @@ fn change<T: SubTable>(opened: &mut Opened<T>, call: &str, words: &Words<'_>) {
     }
 }
 
-/// Makes a call of a table that stands.
-fn opened_call<T: SubTable>(
-    answer: &mut String,
-    opened: &mut Opened<T>,
+/// Makes a call of a table.
+pub fn table_call<T: SubTable>(
+    answer: &mut Answer,
+    place: &mut Option<Opened<T>>,
     alloc: Global,
     call: &str,
     words: &Words<'_>,
 ) -> Option<()> {
+    if call == "new" {
+        return begin(answer, place, alloc);
+    }
+    let opened = place.as_mut()?;
     match call {
         "open" => open(answer, opened, alloc, words),
         "remove" => remove(answer, opened, words.number(0)),
-        "count" => tell_whether(answer, opened.count(words.number(0))),
-        "count_many" => tell_whether(answer, opened.count_many(words.number(0), words.number(1))),
+        "count" => answer.tell_whether(opened.count(words.number(0))),
+        "count_many" => answer.tell_whether(opened.count_many(words.number(0), words.number(1))),
         "close" | "set_max" => {
             change(opened, call, words);
-            tell(answer, "ok")
+            answer.tell("ok")
         }
         _ => seen(answer, opened.table(), alloc, call, words),
     }
@@ -161,40 +244,25 @@ fn opened_call<T: SubTable>(
 
 /// A new table stands from now on.
 fn begin<T: SubTable>(
-    answer: &mut String,
+    answer: &mut Answer,
     place: &mut Option<Opened<T>>,
     alloc: Global,
 ) -> Option<()> {
     let opened = Opened::new(alloc).ok()?;
     put(place, Some(opened));
-    tell(answer, "ok")
-}
-
-/// Makes a call of a table.
-pub fn table_call<T: SubTable>(
-    answer: &mut String,
-    place: &mut Option<Opened<T>>,
-    alloc: Global,
-    call: &str,
-    words: &Words<'_>,
-) -> Option<()> {
-    match place {
-        _ if call == "new" => begin(answer, place, alloc),
-        Some(opened) => opened_call(answer, opened, alloc, call, words),
-        None => None,
-    }
+    answer.tell("ok")
 }
 
 /// Makes a call of the table over a trie, which has nodes too.
 pub fn trie_call(
-    answer: &mut String,
+    answer: &mut Answer,
     place: &mut Option<Opened<TrieTable>>,
     alloc: Global,
     call: &str,
     words: &Words<'_>,
 ) -> Option<()> {
     match call {
-        "nodes" => tell_number(answer, "", place.as_ref()?.table().nodes() as u64),
+        "nodes" => answer.tell_number("", place.as_ref()?.table().nodes() as u64),
         _ => table_call(answer, place, alloc, call, words),
     }
 }
@@ -487,12 +555,12 @@ fn are_alike(alloc: Global, seed: u64) -> Option<bool> {
 }
 
 /// Tells whether the tables answer alike in so many lists, from this seed on.
-pub fn compare(answer: &mut String, alloc: Global, first: u64, count: u64) -> Option<()> {
+pub fn compare(answer: &mut Answer, alloc: Global, first: u64, count: u64) -> Option<()> {
     for at in 0..count {
         let seed = first.saturating_add(at);
         if !are_alike(alloc, seed)? {
-            return tell_number(answer, "apart in the list of ", seed);
+            return answer.tell_number("apart in the list of ", seed);
         }
     }
-    tell(answer, "alike")
+    answer.tell("alike")
 }

@@ -67,6 +67,7 @@ fn minus(alloc: Global, words: &Words<'_>) -> Option<Body> {
     Some(Body::Minus(key))
 }
 
+/// What a frame of this name carries.
 fn body_of(alloc: Global, name: &str, words: &Words<'_>) -> Option<Body> {
     match name {
         "message" => message(alloc, words),
@@ -78,59 +79,53 @@ fn body_of(alloc: Global, name: &str, words: &Words<'_>) -> Option<Body> {
 }
 
 /// A numbered frame of one server to another.
-fn frame(from: Life, to: Life, number: u64, body: Body) -> Option<NodeEvent> {
+fn frame_event(alloc: Global, name: &str, words: &Words<'_>) -> Option<NodeEvent> {
+    let from = life_of(words.at(0))?;
+    let to = life_of(words.at(1))?;
+    let number = count(words.at(2));
+    let body = body_of(alloc, name, words)?;
     let frame = Numbered::new(from.name, from.inc, to.name, to.inc, number, body)?;
     Some(NodeEvent::Receive(frame))
 }
 
-/// A numbered frame.
-fn frame_event(alloc: Global, name: &str, words: &Words<'_>) -> Option<NodeEvent> {
-    let from = life_of(words.at(0))?;
-    let to = life_of(words.at(1))?;
-    let body = body_of(alloc, name, words)?;
-    frame(from, to, count(words.at(2)), body)
+/// The session of the first word.
+fn session_of(words: &Words<'_>) -> SessionId {
+    SessionId::new(count(words.at(0)))
 }
 
-fn info(session: SessionId, words: &Words<'_>) -> Option<NodeEvent> {
+/// The `INFO` of a server on a session.
+fn info(words: &Words<'_>) -> Option<NodeEvent> {
     let from = life_of(words.at(1))?;
-    let info = RouteInfo::new(from.name, from.inc);
-    Some(NodeEvent::OnInfo { session, info })
+    Some(NodeEvent::OnInfo {
+        session: session_of(words),
+        info: RouteInfo::new(from.name, from.inc),
+    })
 }
 
-fn connect(session: SessionId, words: &Words<'_>) -> Option<NodeEvent> {
+/// The `CONNECT` of a server to another one on a session.
+fn connect(words: &Words<'_>) -> Option<NodeEvent> {
     let from = life_of(words.at(1))?;
     let to = life_of(words.at(2))?;
     let serial = count(words.at(3));
     let connect = RouteConnect::new(from.name, from.inc, to.name, to.inc, serial)?;
+    let session = session_of(words);
     Some(NodeEvent::OnConnect { session, connect })
 }
 
-/// An `INFO` or a `CONNECT` on a session.
-fn session_event(name: &str, words: &Words<'_>) -> Option<NodeEvent> {
-    let session = SessionId::new(count(words.at(0)));
+/// What a shard is asked to do, where it is.
+fn work_of(name: &str, index: u64) -> Option<ShardWork> {
     match name {
-        "info" => info(session, words),
-        "connect" => connect(session, words),
+        "attach" => Some(ShardWork::Attach),
+        "begin" => Some(ShardWork::Begin),
+        "claim" => Some(ShardWork::Claim { index }),
+        "end" => Some(ShardWork::End),
+        "drop_job" => Some(ShardWork::DropJob),
+        "drain_shard" => Some(ShardWork::DrainShard),
         _ => None,
     }
 }
 
-/// What a shard is asked to do.
-fn shard_event(name: &str, words: &Words<'_>) -> Option<NodeEvent> {
-    let shard = count(words.at(0));
-    let index = count(words.at(1));
-    let work = match name {
-        "attach" => ShardWork::Attach,
-        "begin" => ShardWork::Begin,
-        "claim" => ShardWork::Claim { index },
-        "end" => ShardWork::End,
-        "drop_job" => ShardWork::DropJob,
-        "drain_shard" => ShardWork::DrainShard,
-        _ => return None,
-    };
-    Some(NodeEvent::at_shard(shard, work))
-}
-
+/// A subscription is opened.
 fn subscribe(alloc: Global, words: &Words<'_>) -> Option<ConnEvent> {
     let sid = sid_of(alloc, words.at(3))?;
     match key_of(alloc, words.at(1), words.at(2)) {
@@ -139,6 +134,7 @@ fn subscribe(alloc: Global, words: &Words<'_>) -> Option<ConnEvent> {
     }
 }
 
+/// A subscription ends, at once or after so many messages.
 fn unsubscribe(alloc: Global, words: &Words<'_>) -> Option<ConnEvent> {
     let max = words.at(2);
     let max = if max.is_empty() {
@@ -172,6 +168,7 @@ fn asked(alloc: Global, name: &str, words: &Words<'_>) -> Option<ConnEvent> {
     }
 }
 
+/// What is asked for the connection of the first word.
 fn conn_event(alloc: Global, name: &str, words: &Words<'_>) -> Option<NodeEvent> {
     let event = asked(alloc, name, words)?;
     Some(NodeEvent::of_conn(ConnId::new(count(words.at(0))), event))
@@ -187,9 +184,8 @@ fn publication(alloc: Global, words: &Words<'_>, echo: bool) -> Option<NodeEvent
     }))
 }
 
-/// What is asked of the hub or the sessions.
-fn route_event(name: &str, words: &Words<'_>) -> Option<OwnEvent> {
-    let number = count(words.at(0));
+/// What is asked of the hub or the sessions, where it is of them.
+fn route_event(name: &str, number: u64, count: u64) -> Option<OwnEvent> {
     match name {
         "collect" => Some(OwnEvent::Collect { shard: number }),
         "drain" => Some(OwnEvent::Drain),
@@ -202,30 +198,36 @@ fn route_event(name: &str, words: &Words<'_>) -> Option<OwnEvent> {
         }),
         "take_frames" => Some(OwnEvent::TakeFrames {
             peer: number as usize,
-            count: count(words.at(1)) as usize,
+            count: count as usize,
         }),
         _ => None,
     }
 }
 
-fn own_route_event(name: &str, words: &Words<'_>) -> Option<NodeEvent> {
-    let event = route_event(name, words)?;
-    Some(NodeEvent::Own(event))
+/// The event of this name, where only numbers say more of it.
+fn event_by_numbers(name: &str, first: u64, second: u64) -> Option<NodeEvent> {
+    match work_of(name, second) {
+        Some(work) => Some(NodeEvent::at_shard(first, work)),
+        None => Some(NodeEvent::Own(route_event(name, first, second)?)),
+    }
+}
+
+/// The event of this name, where more than numbers say more of it.
+fn event_by_words(alloc: Global, name: &str, words: &Words<'_>) -> Option<NodeEvent> {
+    match name {
+        "publish" => publication(alloc, words, true),
+        "publish_no_echo" => publication(alloc, words, false),
+        "info" => info(words),
+        "connect" => connect(words),
+        "message" | "plus" | "minus" | "no_interest" => frame_event(alloc, name, words),
+        _ => conn_event(alloc, name, words),
+    }
 }
 
 /// The event of this name; none where a word names nothing.
 pub fn event_of(alloc: Global, name: &str, words: &Words<'_>) -> Option<NodeEvent> {
-    match name {
-        "attach" | "begin" | "claim" | "end" | "drop_job" | "drain_shard" => shard_event(
-            name, words,
-        ),
-        "publish" => publication(alloc, words, true),
-        "publish_no_echo" => publication(alloc, words, false),
-        "collect" | "drain" | "dial" | "accept" | "cut" | "take_frames" => own_route_event(
-            name, words,
-        ),
-        "info" | "connect" => session_event(name, words),
-        "message" | "plus" | "minus" | "no_interest" => frame_event(alloc, name, words),
-        _ => conn_event(alloc, name, words),
+    match event_by_numbers(name, count(words.at(0)), count(words.at(1))) {
+        Some(event) => Some(event),
+        None => event_by_words(alloc, name, words),
     }
 }

@@ -32,33 +32,86 @@
 //!   whether it will be refused. Behind `n1.by list` events are kept until `n1.run` makes them as one list.
 //! - What could not be made for want of memory is made once more.
 //!
-//! In reading order: `input` is put together for a script or a pipe, and `output` is what was written last, looked at piece by piece;
-//! `reading` reads scripts, `plays` plays them, `audits` audits logs, `matches` asks of patterns, `worlds` makes lists of events in one call, and
-//! `pipes` serves one client by `pieces`, of which each is what one read gives. `commands` reads command lines, `meshes` the files of a
-//! mesh, and `incarnations` starts a server over a disk in memory. `events` reads what a server is asked, and
-//! `servers` makes it: a server over one race, over both, and all servers of a case. `streams` says how a run ended, and `rig` has what stands and whose
-//! call a line is.
+//! In reading order: `runs` has what is read and written, bytes that a case puts together and what was written last, and reads and plays scripts, audits
+//! logs, matches patterns, and serves one client on a pipe; and `starts` reads command lines and files of a mesh, and starts a server over a disk in
+//! memory. `events` reads what a server is asked, and `servers` makes it: a server over one race, over both, and all servers of a case, and lists of
+//! events in one call. Here stands what a case has, and whose call a line is. A call that tells nothing is answered `ok`.
 #![tactic(auto)]
 
-mod audits;
-mod commands;
 mod events;
-mod incarnations;
-mod input;
-mod matches;
-mod meshes;
-mod output;
-mod pieces;
-mod pipes;
-mod plays;
-mod reading;
-mod rig;
+mod runs;
 mod servers;
-mod streams;
-mod worlds;
+mod starts;
 
-use rig::ScriptRig;
+use golden::{Answer, Rig, Words, put};
+use incarnation_file::MemoryDisk;
+use runs::{
+    Output, audit_call, input_call, match_call, output_call, pipe_call, play_call, script_call,
+};
+use servers::{Servers, world_call};
+use starts::{disk_call, line_call, mesh_call};
+use std::alloc::{AllocError, Global};
 use std::process::ExitCode;
+
+/// What a case puts together, what was written last, the servers that have started, and the disk of one.
+#[derive(Drop)]
+struct ScriptRig {
+    alloc: Global,
+    input: Vec<u8>,
+    output: Output,
+    servers: Servers,
+    disk: MemoryDisk,
+}
+
+impl ScriptRig {
+    /// Nothing was put, nothing written, no server has started, and its disk has no file.
+    fn new(alloc: Global) -> ScriptRig {
+        ScriptRig {
+            alloc,
+            input: Vec::new(alloc),
+            output: Output::new(alloc),
+            servers: Servers::new(alloc),
+            disk: MemoryDisk::new(alloc, None),
+        }
+    }
+
+    /// Makes a call. None for want of memory.
+    fn call(&mut self, answer: &mut Answer, name: &str, words: &Words<'_>) -> Option<()> {
+        let (of, call) = name.split_once('.').unwrap_or((name, ""));
+        let alloc = self.alloc;
+        match of {
+            "input" => input_call(answer, &mut self.input, alloc, call, words),
+            "output" => output_call(answer, &mut self.output, alloc, call, words),
+            "script" => script_call(answer, alloc, call, words),
+            "play" => play_call(answer, &mut self.output, alloc, &self.input, call, words),
+            "audit" => audit_call(answer, &self.output, alloc, &self.input, call, words),
+            "pipe" => pipe_call(answer, &mut self.output, alloc, &self.input, call, words),
+            "match" => match_call(answer, alloc, words),
+            "world" => world_call(answer, alloc, call, words),
+            "line" => line_call(answer, alloc, call, words),
+            "mesh" => mesh_call(answer, alloc, words),
+            "disk" => disk_call(answer, &mut self.disk, alloc, call, words),
+            "n1" | "n2" | "n3" => self.servers.call(answer, of, call, words),
+            _ => answer.tell("no such call"),
+        }
+    }
+}
+
+impl Rig for ScriptRig {
+    fn renew(&mut self) -> Result<(), AllocError> {
+        self.input.clear();
+        self.output.clear();
+        self.servers.renew();
+        put(&mut self.disk, MemoryDisk::new(self.alloc, None));
+        Ok(())
+    }
+
+    fn answer(&mut self, name: &str, words: &Words<'_>) -> Result<String, AllocError> {
+        let mut answer = Answer::new(self.alloc);
+        let is_told = self.call(&mut answer, name, words);
+        answer.told_or(self.alloc, "ok", is_told)
+    }
+}
 
 fn main(rt: HostRuntime) -> ExitCode {
     golden::play(&rt, ScriptRig::new(rt.alloc()))

@@ -1,19 +1,20 @@
-//! The servers of a case: each over both races. What comes of a step is told and let go at once, and no call here has a contract: what a
-//! step does is proved where the step is made, and whoever were told it once more would be proved with all of it in hand.
+//! The servers of a case: each over both races; and clusters, in which lists of events are made in one call. What comes of a step is told and let go
+//! at once, and no call here has a contract: what a step does is proved where the step is made, and whoever were told it once more would be proved
+//! with all of it in hand.
 
 use crate::events::{count, event_of, place_of};
 use claim_cells::CellsRace;
 use claim_race::{PlainRace, Race};
-use golden::{Words, server_of, shown, text};
-use node_core::{Answer, Did, Node, Refused};
+use cluster_world::{Delivery, Event, Outcome, World, WorldFault};
+use golden::{Answer, Words, message_of, server_of};
+use node_core::{Answer as Came, Did, Node, Refused};
 use node_law::{NodeEvent, NodeFault};
 use outbox::Entry;
 use route_session::SessionId;
 use route_values::{Body, RouteFrame};
 use std::alloc::{AllocError, Global};
-use std::fmt::Write;
 use sub_trie::TrieTable;
-use subj::{ConnId, Failure, SubId};
+use subj::{ConnId, Failure, Pub};
 
 /// What is seen of a step that was done.
 #[derive(Clone, Copy)]
@@ -32,22 +33,14 @@ struct Seen {
     second: Option<usize>,
 }
 
-/// For how many queue names the frame is.
-fn names_in(frame: &RouteFrame) -> Option<usize> {
-    let RouteFrame::Numbered(frame) = frame else {
+/// For how many queue names the frame is, where it has a message.
+fn names_in(frame: Option<&RouteFrame>) -> Option<usize> {
+    let Some(RouteFrame::Numbered(frame)) = frame else {
         return None;
     };
     match frame.body() {
         Body::Msg { queues, .. } => Some(queues.as_slice().len()),
         _ => None,
-    }
-}
-
-/// The same of the frame at this place.
-fn names_at(frames: &[RouteFrame], place: usize) -> Option<usize> {
-    match frames.get(place) {
-        Some(frame) => names_in(frame),
-        None => None,
     }
 }
 
@@ -59,161 +52,144 @@ fn seen_in(did: &Result<Did, Refused>) -> Option<Seen> {
             frames: did.frames.len(),
             shut: did.shut.len(),
             ended: did.ended.len(),
-            first: names_at(&did.frames, 0),
-            second: names_at(&did.frames, 1),
+            first: names_in(did.frames.get(0)),
+            second: names_in(did.frames.get(1)),
         }),
         Err(_) => None,
     }
 }
 
-/// Each word with its number, with commas between them.
-fn counts_told(alloc: Global, counts: &[(&str, u64)]) -> Result<String, AllocError> {
-    let mut told = String::new(alloc);
-    let mut between = "";
-    for (word, count) in counts {
-        write!(told, "{between}{word} {count}")?;
-        between = ", ";
-    }
-    Ok(told)
+/// Tells two numbers, each behind its word.
+fn tell_two(answer: &mut Answer, first: &str, number: u64, second: &str, other: u64) -> Option<()> {
+    answer.tell_number(first, number);
+    answer.tell_number(second, other)
 }
 
-/// What a step put and closed.
-fn put_told(alloc: Global, seen: Option<Seen>) -> Result<String, AllocError> {
+/// Tells what a step put and closed.
+fn put_told(answer: &mut Answer, seen: Option<Seen>) -> Option<()> {
     let Some(seen) = seen else {
-        return text(alloc, "no step");
+        return answer.tell("no step");
     };
-    counts_told(
-        alloc,
-        &[
-            ("entries", seen.entries as u64),
-            ("frames", seen.frames as u64),
-            ("shut", seen.shut as u64),
-            ("ended", seen.ended as u64),
-        ],
+    tell_two(
+        answer,
+        "entries ",
+        seen.entries as u64,
+        ", frames ",
+        seen.frames as u64,
+    )?;
+    tell_two(
+        answer,
+        ", shut ",
+        seen.shut as u64,
+        ", ended ",
+        seen.ended as u64,
     )
 }
 
-/// For how many queue names the first two frames of a step are.
-fn names_told(alloc: Global, seen: Option<Seen>) -> Result<String, AllocError> {
+/// Tells for how many queue names the first two frames of a step are.
+fn names_told(answer: &mut Answer, seen: Option<Seen>) -> Option<()> {
     let Some(seen) = seen else {
-        return text(alloc, "no step");
+        return answer.tell("no step");
     };
     match (seen.first, seen.second) {
-        (Some(first), Some(second)) => format!(in alloc; "{first} and {second}"),
-        _ => text(alloc, "fewer than two messages"),
+        (Some(first), Some(second)) => tell_two(answer, "", first as u64, " and ", second as u64),
+        _ => answer.tell("fewer than two messages"),
     }
 }
 
-/// A word and a number.
-fn number_told(alloc: Global, word: &str, number: u64) -> Result<String, AllocError> {
-    counts_told(alloc, &[(word, number)])
+/// Tells what a collect or a drain comes to.
+fn collected_told(answer: &mut Answer, changes: usize, frames: usize, cut: usize) -> Option<()> {
+    tell_two(
+        answer,
+        "changes ",
+        changes as u64,
+        ", frames ",
+        frames as u64,
+    )?;
+    answer.tell_number(", cut ", cut as u64)
 }
 
-fn sub_told(alloc: Global, word: &str, sub: SubId) -> Result<String, AllocError> {
-    format!(in alloc; "{word} {}.{}", sub.shard, sub.serial)
-}
-
-fn issued_told(alloc: Global, turn: u64, frames: usize) -> Result<String, AllocError> {
-    counts_told(alloc, &[("turn", turn), ("frames", frames as u64)])
-}
-
-fn begun_told(alloc: Global, placed: usize, shut: usize) -> Result<String, AllocError> {
-    counts_told(alloc, &[("placed", placed as u64), ("shut", shut as u64)])
-}
-
-fn collected_told(
-    alloc: Global,
-    changes: usize,
-    frames: usize,
-    cut: usize,
-) -> Result<String, AllocError> {
-    counts_told(
-        alloc,
-        &[
-            ("changes", changes as u64),
-            ("frames", frames as u64),
-            ("cut", cut as u64),
-        ],
-    )
-}
-
-fn kept_told(alloc: Global, instead_of: Option<SessionId>) -> Result<String, AllocError> {
+/// Tells that a session is kept.
+fn kept_told(answer: &mut Answer, instead_of: Option<SessionId>) -> Option<()> {
     match instead_of {
-        None => text(alloc, "kept"),
-        Some(session) => number_told(alloc, "kept instead of", session.get()),
+        None => answer.tell("kept"),
+        Some(session) => answer.tell_number("kept instead of ", session.get()),
     }
 }
 
-/// An answer of the hub or the sessions, or none.
-fn hub_told(alloc: Global, answer: &Answer) -> Result<String, AllocError> {
-    match answer {
-        Answer::Issued { turn, frames } => issued_told(alloc, turn.get(), *frames),
-        Answer::Routed(turn) => number_told(alloc, "routed", turn.get()),
-        Answer::Heard(mark) => number_told(alloc, "heard", *mark),
-        Answer::Collected {
+/// Tells an answer of the hub or the sessions, or none.
+fn hub_told(answer: &mut Answer, came: &Came) -> Option<()> {
+    match came {
+        Came::Issued { turn, frames } => {
+            tell_two(answer, "turn ", turn.get(), ", frames ", *frames as u64)
+        }
+        Came::Routed(turn) => answer.tell_number("routed ", turn.get()),
+        Came::Heard(mark) => answer.tell_number("heard ", *mark),
+        Came::Collected {
             changes,
             frames,
             cut,
-        } => collected_told(alloc, *changes, *frames, cut.len()),
-        Answer::OnSession(session) => number_told(alloc, "session", session.get()),
-        Answer::Kept { instead_of } => kept_told(alloc, *instead_of),
-        Answer::TakenFrames(frames) => number_told(alloc, "frames", frames.len() as u64),
-        _ => text(alloc, "ok"),
+        } => collected_told(answer, *changes, *frames, cut.len()),
+        Came::OnSession(session) => answer.tell_number("session ", session.get()),
+        Came::Kept { instead_of } => kept_told(answer, *instead_of),
+        Came::TakenFrames(frames) => answer.tell_number("frames ", frames.len() as u64),
+        _ => answer.tell("ok"),
     }
 }
 
-/// An answer.
-fn answer_told(alloc: Global, answer: &Answer) -> Result<String, AllocError> {
-    match answer {
-        Answer::Attached(conn) => number_told(alloc, "conn", conn.get()),
-        Answer::Opened(sub) => sub_told(alloc, "opened", *sub),
-        Answer::AlreadyOpen => text(alloc, "already open"),
-        Answer::Began { placed, shut } => begun_told(alloc, *placed, *shut),
-        Answer::Won(sub) => sub_told(alloc, "won", *sub),
-        Answer::Lost => text(alloc, "lost"),
-        Answer::Nobody => text(alloc, "nobody"),
-        Answer::TakenEntries(entries) => number_told(alloc, "entries", entries.len() as u64),
-        answer => hub_told(alloc, answer),
+/// Tells an answer.
+fn answer_told(answer: &mut Answer, came: &Came) -> Option<()> {
+    match came {
+        Came::Attached(conn) => answer.tell_number("conn ", conn.get()),
+        Came::Opened(sub) => tell_two(answer, "opened ", sub.shard, ".", sub.serial),
+        Came::AlreadyOpen => answer.tell("already open"),
+        Came::Began { placed, shut } => {
+            tell_two(answer, "placed ", *placed as u64, ", shut ", *shut as u64)
+        }
+        Came::Won(sub) => tell_two(answer, "won ", sub.shard, ".", sub.serial),
+        Came::Lost => answer.tell("lost"),
+        Came::Nobody => answer.tell("nobody"),
+        Came::TakenEntries(entries) => answer.tell_number("entries ", entries.len() as u64),
+        came => hub_told(answer, came),
     }
 }
 
-/// A refusal.
-fn refusal_told(alloc: Global, why: Refused) -> Result<String, AllocError> {
+/// What is told of a call for which there was no memory.
+const NO_MEMORY: &str = "no memory";
+
+/// Tells a refusal.
+fn refusal_told(answer: &mut Answer, why: Refused) -> Option<()> {
     match why.number() {
-        Some(number) => format!(in alloc; "refused {number}"),
-        None => text(alloc, "no memory"),
+        Some(number) => answer.tell_refusal(number),
+        None => answer.tell(NO_MEMORY),
     }
 }
 
-/// What came of a step.
-fn outcome_told(alloc: Global, did: &Result<Did, Refused>) -> Result<String, AllocError> {
+/// Tells what came of a step that was made without copies.
+fn came_told(answer: &mut Answer, came: &Result<Came, Refused>) -> Option<()> {
+    match came {
+        Ok(came) => answer_told(answer, came),
+        Err(why) => refusal_told(answer, *why),
+    }
+}
+
+/// Tells what came of a step.
+fn outcome_told(answer: &mut Answer, did: &Result<Did, Refused>) -> Option<()> {
     match did {
-        Ok(did) => answer_told(alloc, &did.answer),
-        Err(why) => refusal_told(alloc, *why),
+        Ok(did) => answer_told(answer, &did.answer),
+        Err(why) => refusal_told(answer, *why),
     }
 }
 
-/// Puts what came of a step of a list behind the others, with this between.
-fn push_outcome(
-    whole: &mut String,
-    alloc: Global,
-    between: &str,
-    did: &Result<Did, Refused>,
-) -> Result<(), AllocError> {
-    let told = outcome_told(alloc, did)?;
-    whole.push_str(between)?;
-    whole.push_str(told.as_str())
-}
-
-/// What came of the steps of a list.
-fn outcomes_told(alloc: Global, outcomes: &[Result<Did, Refused>]) -> Result<String, AllocError> {
-    let mut whole = String::new(alloc);
+/// Tells what came of the steps of a list.
+fn outcomes_told(answer: &mut Answer, outcomes: &[Result<Did, Refused>]) -> Option<()> {
     let mut between = "";
     for outcome in outcomes {
-        push_outcome(&mut whole, alloc, between, outcome)?;
+        answer.tell(between);
+        outcome_told(answer, outcome)?;
         between = "; ";
     }
-    Ok(whole)
+    Some(())
 }
 
 /// The number of the refusal; none where the step was done.
@@ -224,26 +200,22 @@ fn number_in(did: &Result<Did, Refused>) -> Option<u16> {
     }
 }
 
-/// What came of a step whose refusal was foretold so.
-fn step_told(
-    alloc: Global,
-    did: &Result<Did, Refused>,
-    foretold: Option<u16>,
-) -> Result<String, AllocError> {
-    let told = outcome_told(alloc, did)?;
+/// Tells what came of a step whose refusal was foretold so.
+fn step_told(answer: &mut Answer, did: &Result<Did, Refused>, foretold: Option<u16>) -> Option<()> {
+    outcome_told(answer, did)?;
     if number_in(did) == foretold {
-        return Ok(told);
+        return Some(());
     }
-    format!(in alloc; "{}, and not as foretold", told.as_str())
+    answer.tell(", and not as foretold")
 }
 
-/// The bytes of the entries.
-fn entries_told(alloc: Global, entries: &[Entry]) -> Result<String, AllocError> {
+/// Tells the bytes of the entries.
+fn entries_told(answer: &mut Answer, alloc: Global, entries: &[Entry]) -> Option<()> {
     let mut bytes = Vec::new(alloc);
     for entry in entries {
-        entry.append_to(&mut bytes)?;
+        entry.append_to(&mut bytes).ok()?;
     }
-    shown(alloc, "", &bytes)
+    answer.tell_bytes("", &bytes)
 }
 
 /// What a server is asked.
@@ -284,88 +256,89 @@ impl<R: Race> Machine<R> {
         })
     }
 
-    fn fault(&self, event: &NodeEvent) -> Option<NodeFault> {
-        self.node.fault(event)
-    }
-
     /// The number of the refusal that the event will have.
     fn foretold(&self, event: &NodeEvent) -> Option<u16> {
-        match self.fault(event) {
+        match self.node.fault(event) {
             Some(fault) => Some(fault.number()),
             None => None,
         }
     }
 
-    /// Makes the step of the event; once more where there was no memory for it, which has changed nothing.
+    /// What comes of the step of the event.
     fn did(&mut self, event: &NodeEvent) -> Result<Did, Refused> {
-        match self.node.step(event) {
-            Err(Refused::OutOfMemory) => self.node.step(event),
-            did => did,
-        }
+        self.node.step(event)
     }
 
     /// Makes the step of the event.
-    fn step(&mut self, event: &NodeEvent) -> Result<String, AllocError> {
+    fn step(&mut self, answer: &mut Answer, event: &NodeEvent) -> Option<()> {
         let foretold = self.foretold(event);
         let did = self.did(event);
         self.seen = seen_in(&did);
-        step_told(self.alloc, &did, foretold)
+        let is_told = step_told(answer, &did, foretold);
+        drop(did);
+        is_told
     }
 
     /// The same without copies.
-    fn answer(&mut self, event: &NodeEvent) -> Result<Answer, Refused> {
-        match self.node.apply(event) {
-            Err(Refused::OutOfMemory) => self.node.apply(event),
-            answer => answer,
-        }
+    fn applied(&mut self, event: &NodeEvent) -> Result<Came, Refused> {
+        self.node.apply(event)
     }
 
     /// Makes the step without copies.
-    fn apply(&mut self, event: &NodeEvent) -> Result<String, AllocError> {
+    fn apply(&mut self, answer: &mut Answer, event: &NodeEvent) -> Option<()> {
         self.seen = None;
-        match self.answer(event) {
-            Ok(answer) => answer_told(self.alloc, &answer),
-            Err(why) => refusal_told(self.alloc, why),
-        }
+        let came = self.applied(event);
+        let is_told = came_told(answer, &came);
+        drop(came);
+        is_told
     }
 
+    /// What comes of the steps of a list.
     fn outcomes(&mut self, events: &[NodeEvent]) -> Result<Vec<Result<Did, Refused>>, AllocError> {
         self.node.run(events)
     }
 
     /// Makes the steps of a list of events. A refusal among them ends nothing.
-    fn run(&mut self, events: &[NodeEvent]) -> Result<String, AllocError> {
+    fn run(&mut self, answer: &mut Answer, events: &[NodeEvent]) -> Option<()> {
         self.seen = None;
-        let outcomes = self.outcomes(events)?;
-        outcomes_told(self.alloc, &outcomes)
+        let outcomes = self.outcomes(events).ok()?;
+        outcomes_told(answer, &outcomes)
     }
 
-    /// Takes the first entries that wait for a connection; once more where there was no memory for it, which has taken nothing.
-    fn take(&mut self, conn: u64, entries: usize) -> Result<Vec<Entry>, Failure<NodeFault>> {
-        match self.node.take(ConnId::new(conn), entries) {
-            Err(Failure::OutOfMemory) => self.node.take(ConnId::new(conn), entries),
-            taken => taken,
-        }
+    /// The first entries that wait for a connection.
+    fn taken(&mut self, conn: u64, entries: usize) -> Result<Vec<Entry>, Failure<NodeFault>> {
+        self.node.take(ConnId::new(conn), entries)
     }
 
     /// Takes the bytes of the first entries that wait for a connection.
-    fn text(&mut self, conn: u64, entries: usize) -> Result<String, AllocError> {
-        match self.take(conn, entries) {
-            Ok(entries) => entries_told(self.alloc, &entries),
-            Err(_) => text(self.alloc, "no entries"),
+    fn text(&mut self, answer: &mut Answer, conn: u64, entries: usize) -> Option<()> {
+        match self.taken(conn, entries) {
+            Ok(entries) => entries_told(answer, self.alloc, &entries),
+            Err(Failure::Refused(_)) => answer.tell("no entries"),
+            Err(Failure::OutOfMemory) => answer.tell(NO_MEMORY),
         }
     }
 
     /// Answers what it is asked.
-    fn told(&mut self, ask: Ask<'_>) -> Result<String, AllocError> {
+    fn told(&mut self, answer: &mut Answer, ask: Ask<'_>) -> Option<()> {
         match ask {
-            Ask::Step(event) => self.step(event),
-            Ask::Apply(event) => self.apply(event),
-            Ask::Run(events) => self.run(events),
-            Ask::Put => put_told(self.alloc, self.seen),
-            Ask::Names => names_told(self.alloc, self.seen),
-            Ask::Text { conn, entries } => self.text(conn, entries),
+            Ask::Step(event) => self.step(answer, event),
+            Ask::Apply(event) => self.apply(answer, event),
+            Ask::Run(events) => self.run(answer, events),
+            Ask::Put => put_told(answer, self.seen),
+            Ask::Names => names_told(answer, self.seen),
+            Ask::Text { conn, entries } => self.text(answer, conn, entries),
         }
+    }
+
+    /// The same; once more where there was no memory for it, which has changed nothing.
+    fn surely_told(&mut self, answer: &mut Answer, ask: Ask<'_>) -> Option<()> {
+        self.told(answer, ask)?;
+        if answer.as_str() != NO_MEMORY {
+            return Some(());
+        }
+        answer.clear();
+        self.told(answer, ask)
     }
 }
 
@@ -392,46 +365,32 @@ struct Stand {
     list: Vec<NodeEvent>,
 }
 
-/// The answer of both, or both where they are not the same.
-fn of_both(alloc: Global, plain: String, cells: String) -> Result<String, AllocError> {
-    if plain.as_str() == cells.as_str() {
-        return Ok(plain);
-    }
-    format!(in alloc; "{}, and on threads {}", plain.as_str(), cells.as_str())
-}
-
-/// Asks both, and tells the answer of both.
+/// Asks both, and tells the answer of both, or both answers where they are not the same.
 fn both_told(
+    answer: &mut Answer,
     alloc: Global,
     plain: &mut Machine<PlainRace>,
     cells: &mut Machine<CellsRace>,
     ask: Ask<'_>,
-) -> Result<String, AllocError> {
-    let plain = plain.told(ask)?;
-    let cells = cells.told(ask)?;
-    of_both(alloc, plain, cells)
-}
-
-/// What is asked for the bytes of entries.
-fn text_of<'a>(words: &Words<'_>) -> Ask<'a> {
-    Ask::Text {
-        conn: count(words.at(0)),
-        entries: count(words.at(1)) as usize,
+) -> Option<()> {
+    let mut other = Answer::new(alloc);
+    plain.surely_told(answer, ask)?;
+    cells.surely_told(&mut other, ask)?;
+    if answer.as_str() == other.as_str() {
+        return Some(());
     }
-}
-
-/// Puts the event behind the others.
-fn push_event(list: &mut Vec<NodeEvent>, event: NodeEvent) -> Result<(), AllocError> {
-    list.push(event)?;
-    Ok(())
+    answer.tell(", and on threads ");
+    answer.tell(other.as_str())
 }
 
 impl Stand {
-    /// The server of this name, just started, with so many shards; none where no server has the name, or so many.
-    fn start(alloc: Global, name: &str, shards: u64) -> Option<Stand> {
-        let place = place_of(name)?;
+    /// The server at this place, just started, with so many shards; none where there cannot be so many.
+    fn start(alloc: Global, place: usize, shards: u64) -> Option<Stand> {
         let plain = Machine::start(alloc, place, shards)?;
-        let cells = Machine::start(alloc, place, shards)?;
+        let Some(cells) = Machine::start(alloc, place, shards) else {
+            drop(plain);
+            return None;
+        };
         Some(Stand {
             alloc,
             place,
@@ -442,67 +401,68 @@ impl Stand {
         })
     }
 
-    /// Whether it is the server at this place.
-    fn is_at(&self, place: usize) -> bool {
-        self.place == place
-    }
-
     /// Asks both.
-    fn ask(&mut self, ask: Ask<'_>) -> Result<String, AllocError> {
-        both_told(self.alloc, &mut self.plain, &mut self.cells, ask)
+    fn ask(&mut self, answer: &mut Answer, ask: Ask<'_>) -> Option<()> {
+        both_told(answer, self.alloc, &mut self.plain, &mut self.cells, ask)
     }
 
     /// The event waits for the run of the list.
-    fn keep(&mut self, event: NodeEvent) -> Result<String, AllocError> {
-        push_event(&mut self.list, event)?;
-        text(self.alloc, "kept for the run")
+    fn keep(&mut self, answer: &mut Answer, event: NodeEvent) -> Option<()> {
+        self.list.push(event).ok()?;
+        answer.tell("kept for the run")
     }
 
     /// Makes the event, as events are made now.
-    fn make(&mut self, event: NodeEvent) -> Result<String, AllocError> {
-        match self.manner {
-            Manner::Step => self.ask(Ask::Step(&event)),
-            Manner::Apply => self.ask(Ask::Apply(&event)),
-            Manner::List => self.keep(event),
-        }
+    fn make(&mut self, answer: &mut Answer, event: NodeEvent) -> Option<()> {
+        let ask = match self.manner {
+            Manner::Step => Ask::Step(&event),
+            Manner::Apply => Ask::Apply(&event),
+            Manner::List => return self.keep(answer, event),
+        };
+        let is_told = self.ask(answer, ask);
+        drop(event);
+        is_told
     }
 
     /// Makes the event of this name.
-    fn event(&mut self, name: &str, words: &Words<'_>) -> Result<String, AllocError> {
+    fn event(&mut self, answer: &mut Answer, name: &str, words: &Words<'_>) -> Option<()> {
         match event_of(self.alloc, name, words) {
-            Some(event) => self.make(event),
-            None => text(self.alloc, "no such event"),
+            Some(event) => self.make(answer, event),
+            None => answer.tell("no such event"),
         }
     }
 
     /// From now on events are made so.
-    fn turn_to(&mut self, manner: &str) -> Result<String, AllocError> {
+    fn turn_to(&mut self, answer: &mut Answer, manner: &str) -> Option<()> {
         self.manner = match manner {
             "step" => Manner::Step,
             "apply" => Manner::Apply,
             "list" => Manner::List,
-            _ => return text(self.alloc, "no such manner"),
+            _ => return answer.tell("no such manner"),
         };
-        text(self.alloc, "ok")
+        Some(())
     }
 
     /// Makes the events of the list.
-    fn run(&mut self) -> Result<String, AllocError> {
+    fn run(&mut self, answer: &mut Answer) -> Option<()> {
         let list = Ask::Run(&self.list);
-        let told = both_told(self.alloc, &mut self.plain, &mut self.cells, list)?;
+        both_told(answer, self.alloc, &mut self.plain, &mut self.cells, list)?;
         self.list.clear();
-        Ok(told)
+        Some(())
     }
 
     /// Makes the call of this name.
-    fn answer(&mut self, name: &str, words: &Words<'_>) -> Result<String, AllocError> {
+    fn call(&mut self, answer: &mut Answer, name: &str, words: &Words<'_>) -> Option<()> {
         match name {
-            "by" => self.turn_to(words.at(0)),
-            "run" => self.run(),
-            "put" => self.ask(Ask::Put),
-            "names" => self.ask(Ask::Names),
-            "text" => self.ask(text_of(words)),
-            _ => self.event(name, words),
+            "by" => self.turn_to(answer, words.at(0)),
+            "run" => self.run(answer),
+            "put" => self.ask(answer, Ask::Put),
+            "names" => self.ask(answer, Ask::Names),
+            "text" => {
+                let (conn, entries) = (count(words.at(0)), count(words.at(1)) as usize);
+                self.ask(answer, Ask::Text { conn, entries })
+            }
+            _ => self.event(answer, name, words),
         }
     }
 }
@@ -514,11 +474,6 @@ pub struct Servers {
     started: Vec<Stand>,
 }
 
-/// Whether a call was not made: for want of memory, or since a word of it names nothing.
-fn is_unmade(told: &str) -> bool {
-    matches!(told, "no server" | "no such event")
-}
-
 impl Servers {
     /// None has started.
     pub fn new(alloc: Global) -> Servers {
@@ -528,63 +483,179 @@ impl Servers {
         }
     }
 
-    /// Where the server of this name stands, if it has started.
-    fn index_of(&self, name: &str) -> Option<usize> {
-        let place = place_of(name)?;
-        self.started.iter().position(|stand| stand.is_at(place))
-    }
-
-    /// The server of this name, if it has started.
-    fn server(&mut self, name: &str) -> Option<&mut Stand> {
-        let index = self.index_of(name)?;
-        self.started.get_mut(index)
-    }
-
-    fn put(&mut self, stand: Stand) -> Result<String, AllocError> {
-        self.started.push(stand)?;
-        text(self.alloc, "ok")
-    }
-
-    /// Starts the server of this name, once in a case.
-    fn start(&mut self, name: &str, shards: u64) -> Result<String, AllocError> {
-        if self.index_of(name).is_some() {
-            return text(self.alloc, "it has started");
-        }
-        match Stand::start(self.alloc, name, shards) {
-            Some(stand) => self.put(stand),
-            None => text(self.alloc, "no server"),
-        }
-    }
-
-    /// Makes a call of the server of this name.
-    fn ask(&mut self, name: &str, call: &str, words: &Words<'_>) -> Result<String, AllocError> {
-        let alloc = self.alloc;
-        match self.server(name) {
-            Some(stand) => stand.answer(call, words),
-            None => text(alloc, "no server"),
-        }
-    }
-
-    /// Makes a call of one server.
-    fn call(&mut self, name: &str, words: &Words<'_>) -> Result<String, AllocError> {
-        let (server, call) = name.split_once('.').unwrap_or(("", name));
-        match call {
-            "start" => self.start(server, count(words.at(0))),
-            _ => self.ask(server, call, words),
-        }
-    }
-
     /// None has started: the next case begins.
     pub fn renew(&mut self) {
         self.started.clear();
     }
 
-    /// Makes a call of one server; once more where it was not made.
-    pub fn answer(&mut self, name: &str, words: &Words<'_>) -> Result<String, AllocError> {
-        let told = self.call(name, words)?;
-        if is_unmade(told.as_str()) {
-            return self.call(name, words);
-        }
-        Ok(told)
+    /// Where the server at this place stands, if it has started.
+    fn index_of(&self, place: usize) -> Option<usize> {
+        self.started.iter().position(|stand| stand.place == place)
     }
+
+    /// Starts the server at this place, once in a case.
+    fn start(&mut self, answer: &mut Answer, place: usize, shards: u64) -> Option<()> {
+        if self.index_of(place).is_some() {
+            return answer.tell("it has started");
+        }
+        match Stand::start(self.alloc, place, shards) {
+            Some(stand) => self.started.push(stand).ok(),
+            None => answer.tell("no server"),
+        }
+    }
+
+    /// Makes a call of the server at this place.
+    fn ask(
+        &mut self,
+        answer: &mut Answer,
+        place: usize,
+        call: &str,
+        words: &Words<'_>,
+    ) -> Option<()> {
+        let index = self.index_of(place).unwrap_or(usize::MAX);
+        match self.started.get_mut(index) {
+            Some(stand) => stand.call(answer, call, words),
+            None => answer.tell("no server"),
+        }
+    }
+
+    /// Makes a call of the server of this name.
+    fn made(
+        &mut self,
+        answer: &mut Answer,
+        name: &str,
+        call: &str,
+        words: &Words<'_>,
+    ) -> Option<()> {
+        let place = place_of(name)?;
+        match call {
+            "start" => self.start(answer, place, count(words.at(0))),
+            _ => self.ask(answer, place, call, words),
+        }
+    }
+
+    /// Makes a call of the server of this name; once more where it was not made, for want of memory or since a word of it names nothing.
+    pub fn call(
+        &mut self,
+        answer: &mut Answer,
+        name: &str,
+        call: &str,
+        words: &Words<'_>,
+    ) -> Option<()> {
+        self.made(answer, name, call, words)?;
+        if !matches!(answer.as_str(), "no server" | "no such event") {
+            return Some(());
+        }
+        answer.clear();
+        self.made(answer, name, call, words)
+    }
+}
+
+/// A cluster, as the router has it.
+type Cluster = World<TrieTable, CellsRace>;
+
+/// The cluster of these servers with so many shards each: all are down.
+fn cluster(alloc: Global, words: &Words<'_>) -> Option<Cluster> {
+    let shards = words.number(1);
+    let server = server_of(alloc, words.at(0), 0, 1, shards)?;
+    let names = Vec::from_slice(alloc, server.names()).ok()?;
+    World::new(alloc, names, shards).ok()?
+}
+
+/// So many stops of the server at this place.
+fn stops(alloc: Global, node: usize, count: u64) -> Result<Vec<Event>, AllocError> {
+    let mut events = Vec::new(alloc);
+    for _stop in 0..count {
+        events.push(Event::Stop { node })?;
+    }
+    Ok(events)
+}
+
+/// Whether an outcome is the refusal of what is for a server that is down.
+fn is_down(outcome: &Outcome) -> bool {
+    matches!(outcome, Outcome::Refused(WorldFault::NodeDown))
+}
+
+/// Tells how many of these outcomes are that.
+fn down_told(answer: &mut Answer, outcomes: &[Outcome]) -> Option<()> {
+    let mut count = 0u64;
+    for outcome in outcomes {
+        count = count.saturating_add(u64::from(is_down(outcome)));
+    }
+    tell_two(answer, "", count, " of ", outcomes.len() as u64)?;
+    answer.tell(" refused 80")
+}
+
+/// Makes the events in one list.
+fn run(answer: &mut Answer, cluster: &mut Cluster, events: &[Event]) -> Option<()> {
+    let outcomes = cluster.run(events).ok()?;
+    down_told(answer, &outcomes)
+}
+
+/// Tells what came of a publish and of the events behind it.
+fn delivery_told(answer: &mut Answer, delivery: &Delivery) -> Option<()> {
+    answer.tell_number("", u64::from(is_down(&delivery.published)));
+    answer.tell(" of 1 and ");
+    down_told(answer, &delivery.worked)
+}
+
+/// What comes of a publish of this payload, and of the events behind it.
+fn delivered(
+    cluster: &mut Cluster,
+    alloc: Global,
+    node: usize,
+    events: &[Event],
+    payload: &str,
+) -> Option<Delivery> {
+    let publication = Pub {
+        message: message_of(alloc, "foo", "", payload)?,
+        echo: true,
+    };
+    let conn = ConnId::new(u64::MAX);
+    let delivery = cluster.settled_publish(node, conn, &publication, u64::MAX, events);
+    drop(publication);
+    delivery.ok()
+}
+
+/// Publishes this payload, with the events behind it.
+fn publish(
+    answer: &mut Answer,
+    cluster: &mut Cluster,
+    alloc: Global,
+    node: usize,
+    events: &[Event],
+    payload: &str,
+) -> Option<()> {
+    let delivery = delivered(cluster, alloc, node, events, payload)?;
+    let is_told = delivery_told(answer, &delivery);
+    drop(delivery);
+    is_told
+}
+
+/// Makes a call on a cluster.
+fn made_in(
+    answer: &mut Answer,
+    cluster: &mut Cluster,
+    alloc: Global,
+    call: &str,
+    words: &Words<'_>,
+) -> Option<()> {
+    let last = cluster.names().len().saturating_sub(1);
+    let events = stops(alloc, last, words.number(2)).ok()?;
+    match call {
+        "run" => run(answer, cluster, &events),
+        "settled_publish" => publish(answer, cluster, alloc, last, &events, words.at(3)),
+        _ => answer.tell("no such call"),
+    }
+}
+
+/// `run NAMES|SHARDS|COUNT` makes so many stops of the last of these servers in one list: the servers are down. `settled_publish
+/// NAMES|SHARDS|COUNT|PAYLOAD` has a publish at that server before them.
+pub fn world_call(answer: &mut Answer, alloc: Global, call: &str, words: &Words<'_>) -> Option<()> {
+    let Some(mut cluster) = cluster(alloc, words) else {
+        return answer.tell("no cluster");
+    };
+    let is_told = made_in(answer, &mut cluster, alloc, call, words);
+    drop(cluster);
+    is_told
 }

@@ -1,18 +1,19 @@
 //! The two servers of a case with their connections, whatever makes the calls of each: what is done with one of them and with the other ends of
 //! its connections, what it is asked, and what is between both. What stands is borrowed here: a function that had made it would be proved to let
-//! go of it at each of its ends.
+//! go of it at each of its ends. And the lines that the log writes, of events that no stream in memory brings about: they are the system's, or
+//! those of a server's beginning and end.
 
-use event_log::EventText;
-use golden::{Call, Words, bytes_of, call_of, number, shown, text, yes_or_no};
+use event_log::{EventText, Line};
+use golden::{Answer, Call, Words, bytes_of, call_of, number};
 use node_net::{MemStream, Server, Side};
 use peer_proof::{Secret, WORD};
 use server_calls::ServerCalls;
-use server_events::Event;
+use server_events::{Caller, Event, RefusalCause, SystemCause};
 use std::alloc::{AllocError, Global};
-use std::fmt::Write;
-use std::net::SocketAddr;
+use std::io;
+use std::net::{Ipv4Addr, SocketAddr};
 use std::sync::Wait;
-use subj::{HostText, ServerIdentity as Life};
+use subj::{HostText, NodeId, ServerIdentity as Life};
 
 /// What is known of a connection: its key, and how much of what was written to it came to its other end.
 #[derive(Clone, Copy)]
@@ -93,39 +94,29 @@ fn on_stream(
     Some(())
 }
 
-/// A number as an answer, behind a word, or what is told where there is none.
+/// Tells a number behind a word, or another one where there is none.
 fn number_told(
-    alloc: Global,
+    answer: &mut Answer,
     word: &str,
     number: Option<u64>,
     otherwise: &str,
-) -> Result<String, AllocError> {
+) -> Option<()> {
     match number {
-        Some(number) => format!(in alloc; "{word} {number}"),
-        None => text(alloc, otherwise),
+        Some(number) => answer.tell_number(word, number),
+        None => answer.tell(otherwise),
     }
 }
 
-/// What was written to a connection, or how much, or how many calls of its stream have failed.
-fn written_told(
-    alloc: Global,
-    stream: Option<&MemStream>,
-    call: &str,
-) -> Result<String, AllocError> {
+/// Tells what was written to a connection, or how much, or how many calls of its stream have failed.
+fn written_told(answer: &mut Answer, stream: Option<&MemStream>, call: &str) -> Option<()> {
     match stream {
-        None => text(alloc, "no connection"),
-        Some(stream) if call == "length" => format!(in alloc; "{}", stream.written().len()),
-        Some(stream) if call == "failed" => format!(in alloc; "{}", stream.failed_calls()),
-        Some(stream) => shown(alloc, "", stream.written()),
+        None => answer.tell("no connection"),
+        Some(stream) if call == "length" => {
+            answer.tell_number("", stream.written().len() as u64)
+        }
+        Some(stream) if call == "failed" => answer.tell_number("", stream.failed_calls()),
+        Some(stream) => answer.tell_bytes("", stream.written()),
     }
-}
-
-/// Puts what has happened behind what was told, in the words of the log.
-fn push_event(told: &mut String, event: Event) -> Result<(), AllocError> {
-    if !told.is_empty() {
-        told.push_str("; ")?;
-    }
-    write!(told, "{}", EventText(event))
 }
 
 /// The host that clients are told.
@@ -179,7 +170,9 @@ impl<C: ServerCalls> End<C> {
     fn admits<R: Wait>(&mut self, rt: &R, first: u64) -> bool {
         self.server.set_word(word_from(first));
         let mut ready = MemStream::new(self.alloc);
-        self.add(rt, &mut ready, Side::Accepted(None)).is_some()
+        let is_added = self.add(rt, &mut ready, Side::Accepted(None)).is_some();
+        drop(ready);
+        is_added
     }
 
     /// So many dial.
@@ -281,6 +274,17 @@ impl<C: ServerCalls> End<C> {
         self.server.turn(rt, &[first, second, third]);
     }
 
+    /// A turn in which the connection of this number is ready.
+    fn turn_alone<R: Wait>(&mut self, rt: &R, number: u64) {
+        let key = self.key(number);
+        self.server.turn(rt, &[key]);
+    }
+
+    /// The stream of the connection of this number.
+    fn stream(&self, number: u64) -> Option<&MemStream> {
+        self.server.stream(self.key(number))
+    }
+
     /// A client comes who has sent these bytes.
     fn add_sending<R: Wait>(&mut self, rt: &R, ready: &mut MemStream, bytes: &[u8]) -> Option<()> {
         ready.feed(bytes).ok()?;
@@ -340,32 +344,32 @@ impl<C: ServerCalls> End<C> {
 
     /// How many messages of this size are written to a connection in a turn in which another one is told of twice: whether they are from
     /// `least` to `most`.
-    fn gains<R: Wait>(&mut self, rt: &R, line: &Call<'_>) -> Result<String, AllocError> {
-        let words = &line.words;
+    fn gains<R: Wait>(&mut self, rt: &R, words: &Words<'_>) -> bool {
         let key = self.key(words.number(0));
         let before = self.length(key);
         let other = self.key(words.number(1));
         self.server.turn(rt, &[other, other]);
         let count = self.length(key).saturating_sub(before) as u64 / words.number(2).max(1);
-        yes_or_no(
-            self.alloc,
-            count >= words.number(3) && count <= words.number(4),
-        )
+        count >= words.number(3) && count <= words.number(4)
     }
 
     /// Takes a connection out: whether there was one.
-    fn removes<R: Wait>(&mut self, rt: &R, key: usize) -> Result<bool, AllocError> {
-        Ok(self.server.remove(rt, key)?.is_some())
+    fn removes<R: Wait>(&mut self, rt: &R, key: usize) -> Option<bool> {
+        let removed = self.server.remove(rt, key).ok()?;
+        let is_there = removed.is_some();
+        drop(removed);
+        Some(is_there)
     }
 
-    /// Takes out each `step`-th connection of these, the first one of them to begin with: how many there were.
+    /// Takes out each `step`-th connection of these, the first one of them to begin with, and tells how many there were.
     fn remove<R: Wait>(
         &mut self,
+        answer: &mut Answer,
         rt: &R,
         from: u64,
         to: u64,
         step: u64,
-    ) -> Result<String, AllocError> {
+    ) -> Option<()> {
         let mut count = 0_u64;
         for number in from..to.saturating_add(1) {
             let key = self.key(number);
@@ -374,11 +378,11 @@ impl<C: ServerCalls> End<C> {
                 count = count.saturating_add(1);
             }
         }
-        format!(in self.alloc; "removed {count}")
+        answer.tell_number("removed ", count)
     }
 
-    /// To how many of these connections, of those that are there, what was written last is these bytes.
-    fn ends(&self, from: u64, to: u64, bytes: &[u8]) -> Result<String, AllocError> {
+    /// Tells to how many of these connections, of those that are there, what was written last is these bytes.
+    fn ends(&self, answer: &mut Answer, from: u64, to: u64, bytes: &[u8]) -> Option<()> {
         let (mut so, mut all) = (0_u64, 0_u64);
         for number in from..to.saturating_add(1) {
             if let Some(stream) = self.server.stream(self.key(number)) {
@@ -386,57 +390,63 @@ impl<C: ServerCalls> End<C> {
                 so = so.saturating_add(u64::from(stream.written().ends_with(bytes)));
             }
         }
-        format!(in self.alloc; "{so} of {all}")
+        answer.tell_number("", so);
+        answer.tell_number(" of ", all)
     }
 
-    /// What has happened at the server, of what the log tells at the level info.
-    fn told(&self) -> Result<String, AllocError> {
-        let mut told = String::new(self.alloc);
+    /// Tells what has happened at the server, of what the log tells at the level info.
+    fn events(&self, answer: &mut Answer) -> Option<()> {
+        let mut between = "";
         for event in self.server.events().noted() {
-            push_event(&mut told, *event)?;
+            answer.tell_value(between, &EventText(*event));
+            between = "; ";
         }
-        golden::told(self.alloc, told, Some(()))
+        if answer.is_empty() {
+            return answer.tell("nothing");
+        }
+        Some(())
     }
 
-    /// The answer of a call that asks for something of a connection.
-    fn ask_of(&self, call: &str, key: usize) -> Result<String, AllocError> {
-        let (alloc, stream) = (self.alloc, self.server.stream(key));
+    /// Makes a call that asks for something of a connection.
+    fn ask_of(&self, answer: &mut Answer, call: &str, key: usize) -> Option<()> {
+        let stream = self.server.stream(key);
         match call {
-            "is_there" => yes_or_no(alloc, stream.is_some()),
-            "shard" => number_told(alloc, "shard", self.server.shard(key), "none"),
-            _ => written_told(alloc, stream, call),
+            "is_there" => answer.tell_whether(stream.is_some()),
+            "shard" => number_told(answer, "shard ", self.server.shard(key), "none"),
+            _ => written_told(answer, stream, call),
         }
     }
 
-    /// The answer of a call that asks for something of the server as it is, or of some of its connections.
-    fn ask_more(&self, line: &Call<'_>, bytes: &[u8]) -> Result<String, AllocError> {
-        let (alloc, first) = (self.alloc, line.words.number(0));
+    /// Makes a call that asks for something of the server as it is, or of some of its connections.
+    fn ask_more(&self, answer: &mut Answer, line: &Call<'_>, bytes: &[u8]) -> Option<()> {
+        let first = line.words.number(0);
         match line.name {
-            "goes_on" => yes_or_no(alloc, self.server.goes_on()),
-            "has_drained" => yes_or_no(alloc, self.server.has_drained()),
-            "next_turn" => number_told(alloc, "at", self.server.next_turn(), "never"),
-            "entries" => text(alloc, ENTRIES),
-            "told" => self.told(),
-            "ends" => self.ends(first, first, bytes),
-            "ends_each" => self.ends(first, line.words.number(1), bytes),
-            call => self.ask_of(call, self.key(first)),
+            "goes_on" => answer.tell_whether(self.server.goes_on()),
+            "has_drained" => answer.tell_whether(self.server.has_drained()),
+            "next_turn" => number_told(answer, "at ", self.server.next_turn(), "never"),
+            "entries" => answer.tell(ENTRIES),
+            "told" => self.events(answer),
+            "ends" => self.ends(answer, first, first, bytes),
+            "ends_each" => self.ends(answer, first, line.words.number(1), bytes),
+            call => self.ask_of(answer, call, self.key(first)),
         }
     }
 
-    /// The answer of a call that asks something.
+    /// Makes a call that asks something.
     fn ask<R: Wait>(
         &mut self,
+        answer: &mut Answer,
         rt: &R,
         line: &Call<'_>,
         bytes: &[u8],
-    ) -> Result<String, AllocError> {
+    ) -> Option<()> {
         let words = &line.words;
         let (first, second) = (words.number(0), words.number(1));
         match line.name {
-            "admits" => yes_or_no(self.alloc, self.admits(rt, first)),
-            "gains" => self.gains(rt, line),
-            "remove" => self.remove(rt, first, second.max(first), words.number(2)),
-            _ => self.ask_more(line, bytes),
+            "admits" => answer.tell_whether(self.admits(rt, first)),
+            "gains" => answer.tell_whether(self.gains(rt, words)),
+            "remove" => self.remove(answer, rt, first, second.max(first), words.number(2)),
+            _ => self.ask_more(answer, line, bytes),
         }
     }
 }
@@ -462,43 +472,6 @@ fn pass<C: ServerCalls, D: ServerCalls>(
     from.note_passed(number, count)
 }
 
-/// Each server makes turns, and what it has written to the route comes to the other one.
-fn carry<C: ServerCalls, D: ServerCalls, R: Wait>(
-    rt: &R,
-    first: &mut End<C>,
-    second: &mut End<D>,
-    words: &Words<'_>,
-) -> Option<()> {
-    let (here, there) = (words.number(0), words.number(1));
-    for _round in 0..ROUNDS {
-        let key = first.key(here);
-        first.server.turn(rt, &[key]);
-        let key = second.key(there);
-        second.server.turn(rt, &[key]);
-        pass(first, here, second, there, 1)?;
-        pass(second, there, first, here, 1)?;
-    }
-    Some(())
-}
-
-/// A call on a route, of which the ends are a connection of the first server and one of the second.
-fn link<C: ServerCalls, D: ServerCalls, R: Wait>(
-    rt: &R,
-    first: &mut End<C>,
-    second: &mut End<D>,
-    call: &str,
-    words: &Words<'_>,
-) -> Option<()> {
-    let (here, there) = (words.number(0), words.number(1));
-    match call {
-        "pass" => pass(first, here, second, there, 1),
-        "pass_half" => pass(first, here, second, there, 2),
-        "pass_back" => pass(second, there, first, here, 1),
-        "carry" => carry(rt, first, second, words),
-        _ => None,
-    }
-}
-
 /// Counts the lines that are digits alone.
 fn count_lines(written: &[u8], times: &mut [u64]) {
     let Ok(written) = str::from_utf8(written) else {
@@ -509,23 +482,6 @@ fn count_lines(written: &[u8], times: &mut [u64]) {
             *time = time.saturating_add(1);
         }
     }
-}
-
-/// How often each number came to the connections that the words are, as `2:1` is the first one of the second server.
-fn count_all<C: ServerCalls, D: ServerCalls>(
-    first: &End<C>,
-    second: &End<D>,
-    words: &str,
-    times: &mut [u64],
-) -> Option<()> {
-    for word in words.split(' ') {
-        let stream = match word.split_once(':')? {
-            ("1", place) => first.server.stream(first.key(number(place))),
-            (_, place) => second.server.stream(second.key(number(place))),
-        };
-        count_lines(stream?.written(), times);
-    }
-    Some(())
 }
 
 /// Whether none of these numbers is asked for, some are, or all.
@@ -544,19 +500,6 @@ fn share_of(call: &str, times: &[u64]) -> &'static str {
         all if all == times.len() => "all",
         _ => "some",
     }
-}
-
-/// Whether none, some or all of the numbers from the one to before the other are missing, came once, or more often, as payloads.
-fn numbers<C: ServerCalls, D: ServerCalls>(
-    first: &End<C>,
-    second: &End<D>,
-    call: &str,
-    words: &Words<'_>,
-) -> Option<&'static str> {
-    let mut times = [0; NUMBERS];
-    count_all(first, second, words.at(2), &mut times)?;
-    let times = times.get(words.number(0) as usize..words.number(1) as usize)?;
-    Some(share_of(call, times))
 }
 
 /// The calls that ask something.
@@ -583,87 +526,225 @@ pub fn is_question(line: &Call<'_>) -> bool {
     line.of == "numbers" || QUESTIONS.contains(&line.name)
 }
 
-/// Makes a call that asks nothing. None where it cannot be made.
-fn act<C: ServerCalls, D: ServerCalls, R: Wait>(
-    rt: &R,
-    first: &mut End<C>,
-    second: &mut End<D>,
-    ready: &mut MemStream,
-    line: &Call<'_>,
-    bytes: &[u8],
-) -> Option<()> {
-    match line.of {
-        "n1" => first.act(rt, ready, line, bytes),
-        "n2" => second.act(rt, ready, line, bytes),
-        "stream" => on_stream(ready, first.alloc, line.name, line.words.number(0), bytes),
-        "link" => link(rt, first, second, line.name, &line.words),
+/// Both servers of a case, and the stream that is made ready for the next connection.
+#[derive(Drop)]
+pub struct Course<C: ServerCalls, D: ServerCalls> {
+    first: End<C>,
+    second: End<D>,
+    ready: MemStream,
+}
+
+impl<C: ServerCalls, D: ServerCalls> Course<C, D> {
+    /// Of these two.
+    pub fn new(alloc: Global, first: End<C>, second: End<D>) -> Course<C, D> {
+        Course {
+            first,
+            second,
+            ready: MemStream::new(alloc),
+        }
+    }
+
+    /// Each server makes turns, and what it has written to the route comes to the other one.
+    fn carry<R: Wait>(&mut self, rt: &R, here: u64, there: u64) -> Option<()> {
+        for _round in 0..ROUNDS {
+            self.first.turn_alone(rt, here);
+            self.second.turn_alone(rt, there);
+            pass(&mut self.first, here, &mut self.second, there, 1)?;
+            pass(&mut self.second, there, &mut self.first, here, 1)?;
+        }
+        Some(())
+    }
+
+    /// Makes a call on a route, of which the ends are a connection of the first server and one of the second.
+    fn link<R: Wait>(&mut self, rt: &R, line: &Call<'_>) -> Option<()> {
+        let (here, there) = (line.words.number(0), line.words.number(1));
+        match line.name {
+            "pass" => pass(&mut self.first, here, &mut self.second, there, 1),
+            "pass_half" => pass(&mut self.first, here, &mut self.second, there, 2),
+            "pass_back" => pass(&mut self.second, there, &mut self.first, here, 1),
+            "carry" => self.carry(rt, here, there),
+            _ => None,
+        }
+    }
+
+    /// How often each number came to the connections that the words are, as `2:1` is the first one of the second server.
+    fn count_all(&self, words: &str, times: &mut [u64]) -> Option<()> {
+        for word in words.split(' ') {
+            let stream = match word.split_once(':')? {
+                ("1", place) => self.first.stream(number(place)),
+                (_, place) => self.second.stream(number(place)),
+            };
+            count_lines(stream?.written(), times);
+        }
+        Some(())
+    }
+
+    /// Whether none, some or all of the numbers from the one to before the other are missing, came once, or more often, as payloads.
+    fn numbers(&self, call: &str, words: &Words<'_>) -> Option<&'static str> {
+        let mut times = [0; NUMBERS];
+        self.count_all(words.at(2), &mut times)?;
+        let times = times.get(words.number(0) as usize..words.number(1) as usize)?;
+        Some(share_of(call, times))
+    }
+
+    /// Makes a call that asks something.
+    fn ask<R: Wait>(
+        &mut self,
+        answer: &mut Answer,
+        rt: &R,
+        line: &Call<'_>,
+        bytes: &[u8],
+    ) -> Option<()> {
+        match line.of {
+            "n1" => self.first.ask(answer, rt, line, bytes),
+            "n2" => self.second.ask(answer, rt, line, bytes),
+            _ => {
+                let share = self.numbers(line.name, &line.words);
+                answer.tell(share.unwrap_or("no numbers"))
+            }
+        }
+    }
+
+    /// Makes a call that asks nothing. None where it cannot be made.
+    fn act<R: Wait>(&mut self, rt: &R, line: &Call<'_>, bytes: &[u8]) -> Option<()> {
+        let alloc = self.first.alloc;
+        match line.of {
+            "n1" => self.first.act(rt, &mut self.ready, line, bytes),
+            "n2" => self.second.act(rt, &mut self.ready, line, bytes),
+            "stream" => on_stream(
+                &mut self.ready,
+                alloc,
+                line.name,
+                line.words.number(0),
+                bytes,
+            ),
+            "link" => self.link(rt, line),
+            _ => None,
+        }
+    }
+
+    /// Makes a call, of which the last word stands for bytes. Whether one that asks nothing was made.
+    fn made<R: Wait>(&mut self, answer: &mut Answer, rt: &R, line: &Call<'_>) -> Option<bool> {
+        let words = line.words.text;
+        let (_, last) = words.rsplit_once('|').unwrap_or(("", words));
+        let bytes = bytes_of(self.first.alloc, last).ok()?;
+        if is_question(line) {
+            self.ask(answer, rt, line, &bytes)?;
+            return Some(true);
+        }
+        Some(self.act(rt, line, &bytes).is_some())
+    }
+
+    /// Makes these calls, up to the first one that asks nothing and is not done. Tells the last one's answer.
+    pub fn play<R: Wait>(&mut self, answer: &mut Answer, rt: &R, calls: &str) -> Option<()> {
+        for line in calls.lines() {
+            answer.clear();
+            if !self.made(answer, rt, &call_of(line))? {
+                answer.tell(line);
+                return answer.tell(": not done");
+            }
+        }
+        Some(())
+    }
+}
+
+/// The number, or the greatest one of two bytes where it is above that.
+fn of_two_bytes(number: u64) -> u16 {
+    number.min(u64::from(u16::MAX)) as u16
+}
+
+/// The address of this machine with this port.
+fn local(port: u64) -> SocketAddr {
+    SocketAddr::from((Ipv4Addr::LOCALHOST, of_two_bytes(port)))
+}
+
+/// What the system says of the error of this number; of 0 that it had no memory, for which it gives no number.
+fn system_cause(code: u64) -> SystemCause {
+    match code {
+        0 => SystemCause {
+            code: None,
+            kind: io::ErrorKind::OutOfMemory,
+        },
+        code => SystemCause::of(&io::Error::from_raw_os_error(i32::from(of_two_bytes(code)))),
+    }
+}
+
+/// Somebody is refused, for an error of the system.
+fn refused(caller: Caller, cause: SystemCause) -> Event {
+    let cause = RefusalCause::System(cause);
+    Event::ConnectionRefused { caller, cause }
+}
+
+/// The other server of which something is told.
+fn peer() -> Option<NodeId> {
+    NodeId::read(b"n2").ok()
+}
+
+/// A server that has dialed from here is refused as a stranger.
+fn stranger_refused(port: u64) -> Event {
+    let from = Some(local(port));
+    Event::ConnectionRefused {
+        caller: Caller::Server { from },
+        cause: RefusalCause::Stranger,
+    }
+}
+
+/// Clients and other servers are awaited at these ports.
+fn listening(clients: u64, routes: u64) -> Event {
+    Event::Listening {
+        clients: local(clients),
+        routes: local(routes),
+    }
+}
+
+/// The name of the other server is found again.
+fn resolved(port: u64, failures: u64) -> Option<Event> {
+    Some(Event::PeerResolved {
+        peer: peer()?,
+        address: local(port),
+        failures,
+    })
+}
+
+/// The event of this name of the beginning or the end of a server, of which a number says more. None where there is no such one.
+fn end_of(call: &str, number: u64) -> Option<Event> {
+    match call {
+        "drain_asked" => Some(Event::DrainAsked { seconds: number }),
+        "drained" => Some(Event::Drained),
+        "drained_late" => Some(Event::DrainedLate { clients: number }),
+        "stopped" => Some(Event::Stopped),
+        "failed" => Some(Event::Failed {
+            cause: system_cause(number),
+        }),
         _ => None,
     }
 }
 
-/// The answer of a call that asks something.
-fn ask<C: ServerCalls, D: ServerCalls, R: Wait>(
-    rt: &R,
-    first: &mut End<C>,
-    second: &mut End<D>,
-    line: &Call<'_>,
-    bytes: &[u8],
-) -> Result<String, AllocError> {
-    match line.of {
-        "n1" => first.ask(rt, line, bytes),
-        "n2" => second.ask(rt, line, bytes),
-        _ => {
-            let share = numbers(first, second, line.name, &line.words);
-            text(first.alloc, share.unwrap_or("no numbers"))
-        }
+/// The event of this name, of which two numbers say more. None where there is no such one.
+fn event_of(call: &str, first: u64, second: u64) -> Option<Event> {
+    match call {
+        "listening" => Some(listening(first, second)),
+        "client_refused" => Some(refused(Caller::Client, system_cause(first))),
+        "server_refused" => Some(refused(Caller::Server { from: None }, system_cause(first))),
+        "stranger_refused" => Some(stranger_refused(first)),
+        "unresolved" => Some(Event::PeerUnresolved { peer: peer()? }),
+        "resolved" => resolved(first, second),
+        _ => end_of(call, first),
     }
 }
 
-/// The answer of a call.
-fn answer_of<C: ServerCalls, D: ServerCalls, R: Wait>(
-    rt: &R,
-    first: &mut End<C>,
-    second: &mut End<D>,
-    ready: &mut MemStream,
-    line: &Call<'_>,
-    bytes: &[u8],
-) -> Result<String, AllocError> {
-    if is_question(line) {
-        return ask(rt, first, second, line, bytes);
-    }
-    let done = act(rt, first, second, ready, line, bytes);
-    text(first.alloc, if done.is_some() { "ok" } else { "not done" })
+/// The line of an event, by the time in milliseconds since 1970, the server's name, and what says more of it.
+fn line_of(call: &str, words: &Words<'_>) -> Option<Line> {
+    let server = NodeId::read(words.at(1).as_bytes()).ok()?;
+    let event = event_of(call, words.number(2), words.number(3))?;
+    let at = words.number(0);
+    Some(Line { at, server, event })
 }
 
-/// The same of a call whose last word stands for bytes.
-fn made<C: ServerCalls, D: ServerCalls, R: Wait>(
-    rt: &R,
-    first: &mut End<C>,
-    second: &mut End<D>,
-    ready: &mut MemStream,
-    line: &Call<'_>,
-) -> Result<String, AllocError> {
-    let words = line.words.text;
-    let (_, last) = words.rsplit_once('|').unwrap_or(("", words));
-    let bytes = bytes_of(first.alloc, last)?;
-    answer_of(rt, first, second, ready, line, &bytes)
-}
-
-/// Makes these calls, up to the first one that asks nothing and is not done. Gives the last one's answer.
-pub fn play<C: ServerCalls, D: ServerCalls, R: Wait>(
-    rt: &R,
-    first: &mut End<C>,
-    second: &mut End<D>,
-    ready: &mut MemStream,
-    calls: &str,
-) -> Result<String, AllocError> {
-    let mut answer = String::new(first.alloc);
-    for text in calls.lines() {
-        let line = call_of(text);
-        answer = made(rt, first, second, ready, &line)?;
-        if answer.as_str() == "not done" {
-            return format!(in first.alloc; "{text}: not done");
-        }
+/// Tells the line as it is written.
+pub fn log_line(answer: &mut Answer, call: &str, words: &Words<'_>) -> Option<()> {
+    match line_of(call, words) {
+        Some(line) => answer.tell_value("", &line.form()),
+        None => answer.tell("no such line"),
     }
-    Ok(answer)
 }

@@ -6,12 +6,38 @@ ghost use Rattle.job_lane.specs.Ends.{from_hand};
 ghost use Rattle.job_lane.specs.Turns.{AreNumberedBehind};
 
 use bytes::Bytes;
-use golden::{Call, message_of, put, queues_of, text};
+use golden::{Answer, Call, message_of, put, queues_of};
 use job_block::{JobBlock, JobSlice, LentJob, Origin, PublicationParts};
 use job_lane::{LaneIn, LaneOut, Run, lane, meet};
+use node_threads::Turned;
 use std::alloc::{AllocError, Global};
 use std::sync::Wait;
-use subj::{ConnId, Incarnation, Message, NodeId, PubId, QueueName, Turn};
+use subj::{Busy, ConnId, Incarnation, Message, NodeId, PubId, QueueName, Turn};
+
+/// What is told of a call for which there was no memory.
+pub const NO_MEMORY: &str = "no memory";
+
+/// Tells what a turn has come to.
+pub fn turned_told(answer: &mut Answer, turned: Turned) -> Option<()> {
+    match turned {
+        Turned::Idle => answer.tell("idle"),
+        Turned::Worked(turn) => answer.tell_number("worked ", turn.get()),
+        Turned::WorkedRun { jobs, last } => run_told(answer, jobs, last),
+        Turned::Short => answer.tell(NO_MEMORY),
+    }
+}
+
+/// Tells that a run of jobs was worked.
+fn run_told(answer: &mut Answer, jobs: u64, last: Turn) -> Option<()> {
+    answer.tell_number("worked ", jobs);
+    answer.tell_number(" up to ", last.get())
+}
+
+/// Tells which shard a server is busy with, and the last turn that it finished.
+pub fn busy_told(answer: &mut Answer, busy: Busy) -> Option<()> {
+    answer.tell_number("busy: shard ", busy.shard);
+    answer.tell_number(" finished ", busy.finished.get())
+}
 
 /// A message whose payload is the number.
 pub fn message(alloc: Global, number: u64) -> Option<Message> {
@@ -19,6 +45,7 @@ pub fn message(alloc: Global, number: u64) -> Option<Message> {
     message_of(alloc, "orders.new", "answers.1", digits.as_str())
 }
 
+/// The id of the job of this number.
 fn id(number: u64) -> Option<PubId> {
     Some(PubId {
         origin: NodeId::read(b"n1").ok()?,
@@ -59,6 +86,7 @@ fn is_publication(publication: &PublicationParts<'_>, number: u64) -> bool {
         && golden::number(payload) == number
 }
 
+/// Whether these are the queue names of each job.
 fn are_names(names: &[QueueName]) -> bool {
     match names {
         [first, second] => first.bytes() == b"audit".as_slice()
@@ -214,27 +242,38 @@ impl Both {
     }
 }
 
-/// Which jobs wait from the one in hand on.
-fn waiting_told(both: &Both, alloc: Global) -> Result<String, AllocError> {
+/// Tells which jobs these are, from the one number to the other.
+fn jobs_told(answer: &mut Answer, first: u64, last: u64) -> Option<()> {
+    answer.tell_number("jobs ", first);
+    answer.tell_number(" to ", last)
+}
+
+/// Tells which jobs wait from the one in hand on.
+fn waiting_told(answer: &mut Answer, both: &Both) -> Option<()> {
     let Some(jobs) = both.reader.waiting() else {
-        return text(alloc, "none");
+        return answer.tell("none");
     };
     match last_of(&jobs, both.popped.saturating_sub(1)) {
-        None => text(alloc, "other jobs"),
-        Some(last) => format!(in alloc; "jobs {} to {last}", both.popped),
+        None => answer.tell("other jobs"),
+        Some(last) => jobs_told(answer, both.popped, last),
     }
 }
 
-/// Pops so many jobs behind the one in hand at once: which they are.
-fn pop_behind(both: &mut Both, alloc: Global, count: u64) -> Result<String, AllocError> {
-    let first = both.popped.saturating_add(1);
+/// Tells which jobs were popped behind this number of them.
+fn popped_told(answer: &mut Answer, before: u64, popped: u64) -> Option<()> {
+    if popped <= before {
+        return answer.tell("none");
+    }
+    jobs_told(answer, before.saturating_add(1), popped)
+}
+
+/// Pops so many jobs behind the one in hand at once, and tells which they are.
+fn pop_behind(answer: &mut Answer, both: &mut Both, count: u64) -> Option<()> {
+    let before = both.popped;
     if !both.pops_behind(count as usize) {
-        return text(alloc, "not so many");
+        return answer.tell("not so many");
     }
-    if both.popped < first {
-        return text(alloc, "none");
-    }
-    format!(in alloc; "jobs {first} to {}", both.popped)
+    popped_told(answer, before, both.popped)
 }
 
 /// What is told of a run that came back; it stood behind this turn.
@@ -259,22 +298,19 @@ fn push<R: Wait>(rt: &R, both: &mut Both, alloc: Global, count: u64) -> &'static
     }
 }
 
-/// Pops so many jobs, or those that wait: which they are.
-fn pop<R: Wait>(rt: &R, both: &mut Both, alloc: Global, count: u64) -> Result<String, AllocError> {
-    let first = both.popped.saturating_add(1);
+/// Pops so many jobs, or those that wait, and tells which they are.
+fn pop<R: Wait>(answer: &mut Answer, rt: &R, both: &mut Both, count: u64) -> Option<()> {
+    let before = both.popped;
     for _pop in 0..count {
         if !both.pops(rt) {
             break;
         }
     }
-    if both.popped < first {
-        return text(alloc, "none");
-    }
-    format!(in alloc; "jobs {first} to {}", both.popped)
+    popped_told(answer, before, both.popped)
 }
 
-/// Puts the ends together: which jobs are left, where those are the ones behind the last one popped.
-fn meet_told<R: Wait>(rt: &R, both: Both, alloc: Global) -> Result<String, AllocError> {
+/// Puts the ends together, and tells which jobs are left, where those are the ones behind the last one popped.
+fn meet_told<R: Wait>(answer: &mut Answer, rt: &R, both: Both) -> Option<()> {
     let Both {
         writer,
         reader,
@@ -283,57 +319,66 @@ fn meet_told<R: Wait>(rt: &R, both: Both, alloc: Global) -> Result<String, Alloc
     } = both;
     let left = meet(rt, writer, reader);
     match last_of_runs(&left, popped) {
-        None => text(alloc, "other jobs are left"),
-        Some(last) if last == popped => text(alloc, "none is left"),
-        Some(last) => format!(in alloc; "jobs {} to {last} are left", popped.saturating_add(1)),
+        None => answer.tell("other jobs are left"),
+        Some(last) if last == popped => answer.tell("none is left"),
+        Some(last) => left_told(answer, popped, last),
     }
+}
+
+/// Tells which jobs are left behind those popped.
+fn left_told(answer: &mut Answer, popped: u64, last: u64) -> Option<()> {
+    jobs_told(answer, popped.saturating_add(1), last)?;
+    answer.tell(" are left")
 }
 
 /// A new lane in place of what stood.
-fn renew(lane: &mut Option<Both>, alloc: Global, capacity: usize) -> Result<String, AllocError> {
-    put(lane, Some(Both::new(alloc, capacity)?));
-    text(alloc, "ok")
+fn renew(lane: &mut Option<Both>, alloc: Global, capacity: usize) -> Option<()> {
+    put(lane, Some(Both::new(alloc, capacity).ok()?));
+    Some(())
 }
 
-fn close<R: Wait>(rt: &R, lane: &mut Option<Both>, alloc: Global) -> Result<String, AllocError> {
+/// Closes the lane, and tells what is left.
+fn close<R: Wait>(answer: &mut Answer, rt: &R, lane: &mut Option<Both>) -> Option<()> {
     match lane.take() {
-        Some(both) => meet_told(rt, both, alloc),
-        None => text(alloc, "no lane"),
+        Some(both) => meet_told(answer, rt, both),
+        None => answer.tell("no lane"),
     }
 }
 
-/// A call on a lane that stands.
-fn call<R: Wait>(
+/// Makes a call on a lane that stands.
+fn on_lane<R: Wait>(
+    answer: &mut Answer,
+    rt: &R,
+    both: &mut Both,
+    alloc: Global,
+    call: &str,
+    number: u64,
+) -> Option<()> {
+    match call {
+        "push" => answer.tell(push(rt, both, alloc, number)),
+        "pop" => pop(answer, rt, both, number),
+        "pop_behind" => pop_behind(answer, both, number),
+        "waiting" => waiting_told(answer, both),
+        _ => answer.tell("no such call"),
+    }
+}
+
+/// Makes a call on one lane.
+fn lane_call<R: Wait>(
+    answer: &mut Answer,
     rt: &R,
     lane: &mut Option<Both>,
     alloc: Global,
     call: &str,
     number: u64,
-) -> Result<String, AllocError> {
-    let Some(both) = lane else {
-        return text(alloc, "no lane");
-    };
+) -> Option<()> {
     match call {
-        "push" => text(alloc, push(rt, both, alloc, number)),
-        "pop" => pop(rt, both, alloc, number),
-        "pop_behind" => pop_behind(both, alloc, number),
-        "waiting" => waiting_told(both, alloc),
-        _ => text(alloc, "no such call"),
-    }
-}
-
-/// The answer of a call on one lane.
-fn lane_answer<R: Wait>(
-    rt: &R,
-    lane: &mut Option<Both>,
-    alloc: Global,
-    name: &str,
-    number: u64,
-) -> Result<String, AllocError> {
-    match name {
         "new" => renew(lane, alloc, number as usize),
-        "meet" => close(rt, lane, alloc),
-        _ => call(rt, lane, alloc, name, number),
+        "meet" => close(answer, rt, lane),
+        _ => match lane {
+            Some(both) => on_lane(answer, rt, both, alloc, call, number),
+            None => answer.tell("no lane"),
+        },
     }
 }
 
@@ -380,18 +425,19 @@ fn payload_word(payload: &Option<Bytes>) -> &'static str {
     }
 }
 
-/// The answer of a call on the first lane, on both, or on the other one.
-pub fn answer_of<R: Wait>(
+/// Makes a call on the first lane, on both, or on the other one.
+pub fn lanes_call<R: Wait>(
+    answer: &mut Answer,
     rt: &R,
     lanes: &mut Lanes,
     alloc: Global,
     line: &Call<'_>,
     number: u64,
-) -> Result<String, AllocError> {
-    match (line.of, line.name) {
-        (_, "share") => text(alloc, share(rt, lanes, alloc, number)),
-        (_, "payload") => text(alloc, payload_word(&lanes.payload)),
-        ("lane", call) => lane_answer(rt, &mut lanes.first, alloc, call, number),
-        (_, call) => lane_answer(rt, &mut lanes.second, alloc, call, number),
+) -> Option<()> {
+    match (line.name, line.of) {
+        ("share", _) => answer.tell(share(rt, lanes, alloc, number)),
+        ("payload", _) => answer.tell(payload_word(&lanes.payload)),
+        (call, "lane") => lane_call(answer, rt, &mut lanes.first, alloc, call, number),
+        (call, _) => lane_call(answer, rt, &mut lanes.second, alloc, call, number),
     }
 }

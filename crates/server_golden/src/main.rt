@@ -38,36 +38,31 @@
 //! of its log; `log` answers the whole line of an event that streams do not bring about. `kept` has what both servers do under their locks written
 //! down, and `n1.entries` answers how many entries stand on the tapes of n1: on the hub's, and on each shard's.
 //!
-//! In reading order, of threads: `races` has a race of two shards, `lanes` lanes and the jobs that pass them, and `turn_calls` a shard by itself
-//! and one with its hub. `nodes` plays a case of a server, `node_calls` are its calls, and `callers` has those of callers who tell of them. Of
-//! connections: `mesh` starts the two servers of a case, of which `refusing_lanes` has one whose lanes take nothing for a while; `ends` makes the
-//! calls on each and on what is between them; `log_lines` has what the log writes of other events.
+//! In reading order, of threads: `lanes` has lanes and the jobs that pass them, and `turn_calls` a race of two shards, a shard by itself and one with its
+//! hub; and `nodes` plays a case of a server, makes its calls, and has callers who tell of theirs. Of connections: `mesh` starts the two servers of a
+//! case, of which the first one's lanes may take nothing for a while; and `ends` makes the calls on each and on what is between them, and has what
+//! the log writes of other events. A call that tells nothing is answered `ok`.
 //!
 //! A shard and a server stand only in the call of a function that is generic in their name: so a case of theirs is played from its first call
 //! again for each call that it has. Of servers with connections a call that asks nothing is answered at once, and made when the next one asks.
 #![tactic(auto)]
 
-mod callers;
 mod ends;
 mod lanes;
-mod log_lines;
 mod mesh;
-mod node_calls;
 mod nodes;
-mod races;
-mod refusing_lanes;
 mod turn_calls;
 
-use ends::is_question;
-use golden::{Call, Rig, Words, call_of, push_line, put, text, yes_or_no};
-use lanes::Lanes;
-use log_lines::log_line;
+use ends::{is_question, log_line};
+use golden::{Answer, Call, Rig, Words, call_of, push_line, put};
+use lanes::{Lanes, lanes_call};
 use mesh::Mesh;
 use node_net::Shutdown;
-use races::Two;
+use nodes::node_answer;
 use std::alloc::{AllocError, Global};
 use std::process::ExitCode;
 use std::sync::Wait;
+use turn_calls::{Two, alone_answer, beside_answer, race_call};
 
 /// What a case has made and said.
 #[derive(Drop)]
@@ -89,23 +84,27 @@ fn shutdown_of(alloc: Global, clients: u64) -> Shutdown {
     Shutdown::new(stops_after, Vec::new(alloc))
 }
 
-/// The answer of a call on what the servers of a process share.
-fn shutdown_answer(
+/// Makes a call on what the servers of a process share.
+fn shutdown_call(
+    answer: &mut Answer,
     shutdown: &mut Shutdown,
     alloc: Global,
     call: &str,
     number: u64,
-) -> Result<String, AllocError> {
+) -> Option<()> {
     match call {
         "new" => put(shutdown, shutdown_of(alloc, number)),
         "take" => shutdown.take(),
         "lose" => shutdown.lose(number),
         "fail" => shutdown.fail(),
-        "is_over" => return yes_or_no(alloc, shutdown.is_over()),
-        _ => return text(alloc, "no such call"),
+        "is_over" => answer.tell_whether(shutdown.is_over())?,
+        _ => answer.tell("no such call")?,
     }
-    text(alloc, "ok")
+    Some(())
 }
+
+/// What the calls on servers with connections are made on.
+const CONNECTIONS: [&str; 5] = ["stream", "n1", "n2", "link", "numbers"];
 
 impl<'r, R: Wait> ServerRig<'r, R> {
     /// Nothing is made or said yet.
@@ -121,45 +120,40 @@ impl<'r, R: Wait> ServerRig<'r, R> {
         }
     }
 
-    /// A call on a shard or on a server: the answer of the last of all of them.
-    fn last_answer(
-        &mut self,
-        of: &str,
-        name: &str,
-        words: &Words<'_>,
-    ) -> Result<String, AllocError> {
-        push_line(&mut self.calls, name, words)?;
-        match of {
-            "alone" => turn_calls::alone_answer(self.rt, self.alloc, &self.calls),
-            "beside" => turn_calls::beside_answer(self.rt, self.alloc, &self.calls),
-            _ => nodes::answer(self.rt, self.alloc, &self.calls),
+    /// Makes all calls on a shard or on servers again, of which this is the last. One that asks nothing of connections is made when the next one
+    /// asks.
+    fn last_call(&mut self, answer: &mut Answer, line: &Call<'_>) -> Option<()> {
+        match line.of {
+            "alone" => alone_answer(answer, self.rt, self.alloc, &self.calls),
+            "beside" => beside_answer(answer, self.rt, self.alloc, &self.calls),
+            "node" | "pass" => node_answer(answer, self.rt, self.alloc, &self.calls),
+            of if !CONNECTIONS.contains(&of) => answer.tell("no such call"),
+            _ if !is_question(line) => Some(()),
+            _ => self
+                .mesh
+                .play(answer, self.rt, self.alloc, self.calls.as_str()),
         }
     }
 
-    /// A call on servers with connections. One that asks nothing is answered at once, and made when the next one asks.
-    fn mesh_answer(&mut self, name: &str, words: &Words<'_>) -> Result<String, AllocError> {
-        push_line(&mut self.calls, name, words)?;
-        if is_question(&call_of(name)) {
-            self.mesh.answer(self.rt, self.alloc, self.calls.as_str())
-        } else {
-            text(self.alloc, "ok")
-        }
-    }
-
-    /// A call on servers with connections, or on what is about them.
-    fn connection_answer(
+    /// Makes a call. None for want of memory.
+    fn call(
         &mut self,
+        answer: &mut Answer,
         line: &Call<'_>,
         name: &str,
         words: &Words<'_>,
-    ) -> Result<String, AllocError> {
-        let (alloc, call) = (self.alloc, line.name);
+    ) -> Option<()> {
+        let (alloc, call, number) = (self.alloc, line.name, words.number(0));
         match line.of {
-            "mesh" => text(alloc, self.mesh.set(call, words)),
-            "shutdown" => shutdown_answer(&mut self.shutdown, alloc, call, words.number(0)),
-            "log" => log_line(alloc, call, words),
-            "stream" | "n1" | "n2" | "link" | "numbers" => self.mesh_answer(name, words),
-            _ => text(alloc, "no such call"),
+            "race" => race_call(answer, &mut self.race, alloc, call, words),
+            "lane" | "other" => lanes_call(answer, self.rt, &mut self.lanes, alloc, line, number),
+            "mesh" => answer.tell(self.mesh.set(call, words)),
+            "shutdown" => shutdown_call(answer, &mut self.shutdown, alloc, call, number),
+            "log" => log_line(answer, call, words),
+            _ => {
+                push_line(&mut self.calls, name, words).ok()?;
+                self.last_call(answer, line)
+            }
         }
     }
 }
@@ -175,16 +169,10 @@ impl<'r, R: Wait> Rig for ServerRig<'r, R> {
     }
 
     fn answer(&mut self, name: &str, words: &Words<'_>) -> Result<String, AllocError> {
-        let alloc = self.alloc;
+        let mut answer = Answer::new(self.alloc);
         let line = call_of(name);
-        match line.of {
-            "race" => races::answer_of(&mut self.race, alloc, line.name, words),
-            "lane" | "other" => {
-                lanes::answer_of(self.rt, &mut self.lanes, alloc, &line, words.number(0))
-            }
-            "alone" | "beside" | "node" | "pass" => self.last_answer(line.of, name, words),
-            _ => self.connection_answer(&line, name, words),
-        }
+        let is_told = self.call(&mut answer, &line, name, words);
+        answer.told_or(self.alloc, "ok", is_told)
     }
 }
 

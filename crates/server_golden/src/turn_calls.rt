@@ -1,12 +1,13 @@
-//! A shard with its lane and its seat, by itself or with its hub beside it, and their calls.
+//! What shards do with turns: a race of two shards, with all seats; and a shard with its lane and its seat, by itself or with its hub beside it.
 
 ghost use Rattle.std.specs.Prelude.{◌≡◌, ◌∷◌, [], IfSome};
 ghost use Rattle.claim_cells.specs.Rule.{fresh_hub};
+ghost use Rattle.server_golden.specs.Races.{AreTwo};
 ghost use Rattle.server_golden.specs.Turns.{IsAlone};
 
-use crate::lanes::{message, run_behind};
-use claim_cells::{Cells, HubSeat, ShardSeat};
-use golden::{Call, call_of, key_of, server_of, sid_of, text};
+use crate::lanes::{busy_told, message, run_behind, turned_told};
+use claim_cells::{Cells, Closed, HubSeat, ShardSeat};
+use golden::{Answer, Call, Words, call_of, key_of, put, server_of, sid_of};
 use hub_core::{CollectResult, HubFault};
 use job_lane::{LANE_CAPACITY, LaneIn, LaneOut, lane};
 use node_threads::{HubState, LaneSender, NodeName, Open, ShardState, Tape, Turned};
@@ -14,7 +15,229 @@ use std::alloc::{AllocError, Global};
 use std::marker::Brand;
 use std::sync::Wait;
 use sub_trie::TrieTable;
-use subj::{ConnId, Failure, MAX_COUNTER, Pub, ServerIdentity, Turn};
+use subj::{Busy, ConnId, Failure, MAX_COUNTER, MAX_QUEUE_NAMES, Pub, ServerIdentity, Turn};
+
+/// The race, with the seats of its hub and of both shards.
+#[derive(Drop)]
+pub struct Two {
+    cells: Cells,
+    hub: HubSeat,
+    first: ShardSeat,
+    second: ShardSeat,
+    ghost of: { AreTwo cells hub first second },
+}
+
+/// The next turn, unless the race is busy; shard 0 is told where there is no next turn.
+fn issue(cells: &Cells, hub: &mut HubSeat) -> Result<Turn, Busy>
+    requires { hub.old.race ≡ cells.now }
+    ensures { hub.new.race ≡ hub.old.race }
+{
+    let last = hub.issued();
+    if last.get() >= MAX_COUNTER {
+        return Err(Busy {
+            shard: 0,
+            finished: last,
+        });
+    }
+    cells.issue(hub)
+}
+
+/// Claims the index where the shard may.
+fn claim(cells: &Cells, seat: &mut ShardSeat, index: u64) -> &'static str
+    requires { seat.old.race ≡ cells.now }
+    ensures race { seat.new.race ≡ seat.old.race }
+    ensures shard { seat.new.part.shard ≡ seat.old.part.shard }
+{
+    if !seat.has_turn() || index < seat.next_index() || index >= MAX_QUEUE_NAMES {
+        return "may not claim";
+    }
+    if cells.claim(seat, index) {
+        "won"
+    } else {
+        "lost"
+    }
+}
+
+/// Ends the turn where the shard may.
+fn finish(cells: &Cells, seat: &mut ShardSeat) -> &'static str
+    requires { seat.old.race ≡ cells.now }
+    ensures race { seat.new.race ≡ seat.old.race }
+    ensures shard { seat.new.part.shard ≡ seat.old.part.shard }
+{
+    if !seat.has_turn() {
+        return "may not finish";
+    }
+    cells.finish(seat);
+    "finished"
+}
+
+/// Sees the last turn issued, claims an index or ends the turn, where the shard may: what came of it.
+fn act(cells: &Cells, seat: &mut ShardSeat, call: &str, index: u64) -> &'static str
+    requires { seat.old.race ≡ cells.now }
+    ensures race { seat.new.race ≡ seat.old.race }
+    ensures shard { seat.new.part.shard ≡ seat.old.part.shard }
+{
+    match call {
+        "claim" => claim(cells, seat, index),
+        "finish" => finish(cells, seat),
+        _ => {
+            cells.see(seat);
+            "saw"
+        }
+    }
+}
+
+/// Tells how a seat stands; turn 0 is behind the last turn that there can be.
+fn seat_told(answer: &mut Answer, seat: &ShardSeat) -> Option<()> {
+    let turn = seat.turn().map_or(0, Turn::get);
+    answer.tell_number("turn ", turn);
+    answer.tell(if seat.has_turn() { " is" } else { " is not" });
+    answer.tell_number(" issued, index ", seat.next_index());
+    answer.tell(" is next")
+}
+
+/// Tells a turn that was issued or not.
+fn issue_told(answer: &mut Answer, issued: Result<Turn, Busy>) -> Option<()> {
+    match issued {
+        Ok(turn) => answer.tell_number("turn ", turn.get()),
+        Err(busy) => busy_told(answer, busy),
+    }
+}
+
+/// Tells two numbers, each behind its word.
+fn tell_two(answer: &mut Answer, first: &str, number: u64, second: &str, other: u64) -> Option<()> {
+    answer.tell_number(first, number);
+    answer.tell_number(second, other)
+}
+
+/// Tells which turn won the first index, and which the second, of those that share their places with turn 1.
+fn closed_told(answer: &mut Answer, closed: &Closed) -> Option<()> {
+    let turn = Turn::new(1).unwrap_or(Turn::zero());
+    let (first, second) = (closed.finished.of(1).get(), closed.finished.of(2).get());
+    answer.tell_number("issued ", closed.issued.get());
+    tell_two(answer, ", finished ", first, " ", second)?;
+    let (first, second) = (closed.cell(turn, 0).get(), closed.cell(turn, 1).get());
+    tell_two(answer, ", won last in ", first, " ", second)
+}
+
+impl Two {
+    /// A race that has just begun.
+    pub fn new(alloc: Global) -> Result<Two, AllocError> {
+        let (cells, hub, mut seats) = Cells::new(alloc, 2)?;
+        let second = seats.pop().unwrap();
+        let first = seats.pop().unwrap();
+        Ok(Two {
+            cells,
+            hub,
+            first,
+            second,
+        })
+    }
+
+    /// The next turn, unless the race is busy.
+    fn issue(&mut self) -> Result<Turn, Busy> {
+        issue(&self.cells, &mut self.hub)
+    }
+
+    /// Tells the last turns that the shards finished.
+    fn look(&mut self, answer: &mut Answer) -> Option<()> {
+        let finished = self.cells.look(&mut self.hub);
+        tell_two(
+            answer,
+            "finished ",
+            finished.of(1).get(),
+            " ",
+            finished.of(2).get(),
+        )
+    }
+
+    /// What the first shard does, or the second one.
+    fn acted(&mut self, shard: u64, call: &str, index: u64) -> &'static str {
+        if shard == 2 {
+            act(&self.cells, &mut self.second, call, index)
+        } else {
+            act(&self.cells, &mut self.first, call, index)
+        }
+    }
+
+    /// The seat of the first shard, or of the second one.
+    fn seat(&self, shard: u64) -> &ShardSeat {
+        if shard == 2 {
+            &self.second
+        } else {
+            &self.first
+        }
+    }
+
+    /// Ends the race.
+    fn close(self, alloc: Global) -> Result<Closed, AllocError> {
+        let Two {
+            cells,
+            hub,
+            first,
+            second,
+        } = self;
+        let Ok(seats) = Vec::from_array(alloc, [first, second]) else {
+            drop(cells);
+            drop(hub);
+            return Err(AllocError);
+        };
+        cells.close(hub, seats)
+    }
+
+    /// Makes a call.
+    fn call(&mut self, answer: &mut Answer, call: &str, words: &Words<'_>) -> Option<()> {
+        let (shard, index) = (words.number(0), words.number(1));
+        match call {
+            "issue" => issue_told(answer, self.issue()),
+            "look" => self.look(answer),
+            "shards" => {
+                tell_two(
+                    answer,
+                    "shards ",
+                    self.first.shard(),
+                    " ",
+                    self.second.shard(),
+                )
+            }
+            "seat" => seat_told(answer, self.seat(shard)),
+            "see" | "claim" | "finish" => answer.tell(self.acted(shard, call, index)),
+            _ => answer.tell("no such call"),
+        }
+    }
+}
+
+/// A new race.
+fn renew(race: &mut Option<Two>, alloc: Global) -> Option<()> {
+    put(race, Some(Two::new(alloc).ok()?));
+    Some(())
+}
+
+/// Ends the race, and tells how it stood.
+fn close(answer: &mut Answer, race: &mut Option<Two>, alloc: Global) -> Option<()> {
+    match race.take() {
+        Some(two) => closed_told(answer, &two.close(alloc).ok()?),
+        None => answer.tell("no race"),
+    }
+}
+
+/// Makes a call on the race.
+pub fn race_call(
+    answer: &mut Answer,
+    race: &mut Option<Two>,
+    alloc: Global,
+    call: &str,
+    words: &Words<'_>,
+) -> Option<()> {
+    match call {
+        "new" => renew(race, alloc),
+        "close" => close(answer, race, alloc),
+        _ => match race {
+            Some(two) => two.call(answer, call, words),
+            None => answer.tell("no race"),
+        },
+    }
+}
 
 /// The parts of a server of one shard.
 #[derive(Drop)]
@@ -28,6 +251,7 @@ struct Made {
 }
 
 impl Made {
+    /// The parts of a server that has just started.
     fn new(alloc: Global) -> Result<Made, AllocError> {
         let (cells, hub, mut seats) = Cells::new(alloc, 1)?;
         let seat = seats.pop().unwrap();
@@ -51,48 +275,40 @@ fn member<N: NodeName>(alloc: Global, shard: &mut ShardState<TrieTable, N>) -> O
     Some(conn)
 }
 
-/// The same, as an answer.
+/// Tells the new connection.
 fn member_told<N: NodeName>(
+    answer: &mut Answer,
     alloc: Global,
     shard: &mut ShardState<TrieTable, N>,
-) -> Result<String, AllocError> {
+) -> Option<()> {
     match member(alloc, shard) {
-        Some(conn) => format!(in alloc; "connection {}", conn.get()),
-        None => text(alloc, "refused"),
+        Some(conn) => answer.tell_number("connection ", conn.get()),
+        None => answer.tell("refused"),
     }
 }
 
-/// How many entries wait for the connection; up to 9 are taken.
+/// Tells how many entries wait for the connection; up to 9 are taken.
 fn take_told<N: NodeName>(
-    alloc: Global,
+    answer: &mut Answer,
     shard: &mut ShardState<TrieTable, N>,
     conn: u64,
-) -> Result<String, AllocError> {
+) -> Option<()> {
     match shard.take(ConnId::new(conn), 9) {
-        Ok(entries) => format!(in alloc; "entries {}", entries.len()),
-        Err(_) => text(alloc, "refused"),
+        Ok(entries) => answer.tell_number("entries ", entries.len() as u64),
+        Err(_) => answer.tell("refused"),
     }
 }
 
 /// What a turn comes to.
-fn turn_told<N: NodeName, R: Wait>(
+fn turned<N: NodeName, R: Wait>(
     rt: &R,
     alloc: Global,
     shard: &mut ShardState<TrieTable, N>,
     cells: &Cells,
-) -> Result<String, AllocError>
+) -> Turned
     requires { cells.now ≡ N.race }
 {
-    match shard.turn(rt, cells, &Open, &mut Tape::new(alloc, false)) {
-        Turned::Idle => text(alloc, "idle"),
-        Turned::Worked(turn) => format!(in alloc; "worked {}", turn.get()),
-        Turned::WorkedRun { jobs, last } => format!(in alloc;
-            "worked {} up to {}",
-            jobs,
-            last.get()
-        ),
-        Turned::Short => text(alloc, "no memory"),
-    }
+    shard.turn(rt, cells, &Open, &mut Tape::new(alloc, false))
 }
 
 /// The number of the refusal of a drop; 0 where a job was dropped.
@@ -110,30 +326,31 @@ fn drop_fault<N: NodeName, R: Wait>(
     }
 }
 
-/// Whether a job is dropped, or why none is.
-fn drop_told(alloc: Global, fault: u16) -> Result<String, AllocError> {
+/// Tells whether a job is dropped, or why none is.
+fn drop_told(answer: &mut Answer, fault: u16) -> Option<()> {
     match fault {
-        0 => text(alloc, "dropped"),
-        fault => format!(in alloc; "refused {fault}"),
+        0 => answer.tell("dropped"),
+        fault => answer.tell_refusal(fault),
     }
 }
 
-/// The answer of a call on a shard.
-fn shard_answer<N: NodeName, R: Wait>(
+/// Makes a call on a shard.
+fn shard_call<N: NodeName, R: Wait>(
+    answer: &mut Answer,
     rt: &R,
     alloc: Global,
     shard: &mut ShardState<TrieTable, N>,
     cells: &Cells,
     line: &Call<'_>,
-) -> Result<String, AllocError>
+) -> Option<()>
     requires { cells.now ≡ N.race }
 {
     match line.name {
-        "member" => member_told(alloc, shard),
-        "take" => take_told(alloc, shard, line.words.number(0)),
-        "turn" => turn_told(rt, alloc, shard, cells),
-        "drop" => drop_told(alloc, drop_fault(rt, alloc, shard, cells)),
-        _ => text(alloc, "no such call"),
+        "member" => member_told(answer, alloc, shard),
+        "take" => take_told(answer, shard, line.words.number(0)),
+        "turn" => turned_told(answer, turned(rt, alloc, shard, cells)),
+        "drop" => drop_told(answer, drop_fault(rt, alloc, shard, cells)),
+        _ => answer.tell("no such call"),
     }
 }
 
@@ -145,12 +362,15 @@ struct Fresh {
 }
 
 impl Fresh {
-    /// Hands the first job over: whether the lane took it.
-    fn hand_over<R: Wait>(self, rt: &R, alloc: Global) -> bool {
+    /// Hands the first job over.
+    fn hand_over<R: Wait>(self, rt: &R, alloc: Global) -> &'static str {
         let Fresh { mut near } = self;
-        match run_behind(alloc, Turn::zero(), 1) {
-            Some(run) => near.push(rt, run).is_ok(),
-            None => false,
+        let Some(run) = run_behind(alloc, Turn::zero(), 1) else {
+            return "not pushed";
+        };
+        match near.push(rt, run) {
+            Ok(()) => "pushed",
+            Err(_) => "not pushed",
         }
     }
 }
@@ -168,6 +388,7 @@ struct Alone<N: NodeName> {
 }
 
 impl<N: NodeName> Alone<N> {
+    /// A shard of these parts that has done nothing.
     fn new(alloc: Global, made: Made) -> Result<Alone<N>, AllocError>
         requires race { made.cells ≡ N.race }
         requires lanes { made.far.lane ∷ [] ≡ N.lanes }
@@ -179,7 +400,12 @@ impl<N: NodeName> Alone<N> {
             near,
             far,
         } = made;
-        let shard = ShardState::new(alloc, seat, 1, far)?;
+        let Ok(shard) = ShardState::new(alloc, seat, 1, far) else {
+            drop(cells);
+            drop(hub);
+            drop(near);
+            return Err(AllocError);
+        };
         Ok(Alone {
             alloc,
             cells,
@@ -189,50 +415,39 @@ impl<N: NodeName> Alone<N> {
         })
     }
 
-    /// Issues the next turn: whether it was issued.
-    fn issues(&mut self) -> bool {
-        self.hub.issued().get() < MAX_COUNTER && self.cells.issue(&mut self.hub).is_ok()
+    /// Issues the next turn, where there is one.
+    fn issue(&mut self) -> &'static str {
+        if self.hub.issued().get() < MAX_COUNTER && self.cells.issue(&mut self.hub).is_ok() {
+            "issued"
+        } else {
+            "not issued"
+        }
     }
 
-    /// Hands the first job over, once: whether the lane took it.
-    fn hands_over<R: Wait>(&mut self, rt: &R) -> bool {
+    /// Hands the first job over, once.
+    fn hand_over<R: Wait>(&mut self, rt: &R) -> &'static str {
         match self.near.take() {
             Some(fresh) => fresh.hand_over(rt, self.alloc),
-            None => false,
+            None => "not pushed",
         }
     }
 
-    /// The answer of a call.
-    fn answer<R: Wait>(&mut self, rt: &R, line: &Call<'_>) -> Result<String, AllocError> {
-        let alloc = self.alloc;
+    /// Makes a call.
+    fn call<R: Wait>(&mut self, answer: &mut Answer, rt: &R, line: &Call<'_>) -> Option<()> {
         match line.name {
-            "issue" => text(
-                alloc,
-                if self.issues() {
-                    "issued"
-                } else {
-                    "not issued"
-                },
-            ),
-            "hand_over" => text(
-                alloc,
-                if self.hands_over(rt) {
-                    "pushed"
-                } else {
-                    "not pushed"
-                },
-            ),
-            _ => shard_answer(rt, alloc, &mut self.shard, &self.cells, line),
+            "issue" => answer.tell(self.issue()),
+            "hand_over" => answer.tell(self.hand_over(rt)),
+            _ => shard_call(answer, rt, self.alloc, &mut self.shard, &self.cells, line),
         }
     }
 
-    /// Makes these calls, one a line. Gives the last one's answer.
-    fn last_answer<R: Wait>(&mut self, rt: &R, calls: &String) -> Result<String, AllocError> {
-        let mut answer = String::new(self.alloc);
-        for line in calls.as_str().lines() {
-            answer = self.answer(rt, &call_of(line))?;
+    /// Makes these calls, one a line. Tells the last one's answer.
+    fn play<R: Wait>(&mut self, answer: &mut Answer, rt: &R, calls: &str) -> Option<()> {
+        for line in calls.lines() {
+            answer.clear();
+            self.call(answer, rt, &call_of(line))?;
         }
-        Ok(answer)
+        Some(())
     }
 }
 
@@ -308,25 +523,29 @@ fn publish<N: NodeName>(
     }
 }
 
-fn publish_told(alloc: Global, turn: Option<u64>) -> Result<String, AllocError> {
+/// Tells what a publication comes to.
+fn publish_told(answer: &mut Answer, turn: Option<u64>) -> Option<()> {
     match turn {
-        None => text(alloc, "busy"),
-        Some(0) => text(alloc, "refused"),
-        Some(turn) => format!(in alloc; "turn {turn}"),
+        None => answer.tell("busy"),
+        Some(0) => answer.tell("refused"),
+        Some(turn) => answer.tell_number("turn ", turn),
     }
 }
 
-fn changes_told(
-    alloc: Global,
-    told: Result<CollectResult, Failure<HubFault>>,
-) -> Result<String, AllocError> {
+/// Tells how many changes a hub hears of from a shard.
+fn changes_told(answer: &mut Answer, told: Result<CollectResult, Failure<HubFault>>) -> Option<()> {
     match told {
-        Ok(told) => format!(in alloc; "changes {}", told.changes.len()),
-        Err(_) => text(alloc, "refused"),
+        Ok(told) => {
+            let changes = told.changes.len() as u64;
+            drop(told);
+            answer.tell_number("changes ", changes)
+        }
+        Err(_) => answer.tell("refused"),
     }
 }
 
 impl<N: NodeName> Beside<N> {
+    /// A shard and its hub of these parts that have done nothing.
     fn new(alloc: Global, made: Made) -> Result<Beside<N>, AllocError>
         requires race { made.cells ≡ N.race }
         requires lanes { made.far.lane ∷ [] ≡ N.lanes }
@@ -357,90 +576,92 @@ impl<N: NodeName> Beside<N> {
         })
     }
 
-    /// How many changes the hub hears of from the shard.
-    fn collect(&mut self) -> Result<String, AllocError> {
-        changes_told(self.alloc, self.hub.collect(&mut self.shard))
-    }
-
     /// Publishes for this connection.
-    fn publish(&mut self, conn: u64) -> Result<String, AllocError> {
-        match publication(self.alloc) {
-            Some(publication) => {
-                publish_told(
-                    self.alloc,
-                    publish(&mut self.hub, &self.cells, &publication, conn),
-                )
-            }
-            None => text(self.alloc, "no memory"),
-        }
+    fn publish(&mut self, answer: &mut Answer, conn: u64) -> Option<()> {
+        let publication = publication(self.alloc)?;
+        let turn = publish(&mut self.hub, &self.cells, &publication, conn);
+        drop(publication);
+        publish_told(answer, turn)
     }
 
     /// Pushes the jobs that were given to the shard and are not pushed yet.
-    fn push<R: Wait>(&mut self, rt: &R) -> Result<String, AllocError> {
+    fn push<R: Wait>(&mut self, answer: &mut Answer, rt: &R) -> Option<()> {
         self.hub.push_jobs(rt);
-        text(self.alloc, "ok")
+        answer.tell("ok")
     }
 
-    /// The answer of a call.
-    fn answer<R: Wait>(&mut self, rt: &R, line: &Call<'_>) -> Result<String, AllocError> {
+    /// Makes a call.
+    fn call<R: Wait>(&mut self, answer: &mut Answer, rt: &R, line: &Call<'_>) -> Option<()> {
         match line.name {
-            "collect" => self.collect(),
-            "publish" => self.publish(line.words.number(0)),
-            "push_jobs" => self.push(rt),
-            _ => shard_answer(rt, self.alloc, &mut self.shard, &self.cells, line),
+            "collect" => changes_told(answer, self.hub.collect(&mut self.shard)),
+            "publish" => self.publish(answer, line.words.number(0)),
+            "push_jobs" => self.push(answer, rt),
+            _ => shard_call(answer, rt, self.alloc, &mut self.shard, &self.cells, line),
         }
     }
 
-    /// Makes these calls, one a line. Gives the last one's answer.
-    fn last_answer<R: Wait>(&mut self, rt: &R, calls: &String) -> Result<String, AllocError> {
-        let mut answer = String::new(self.alloc);
-        for line in calls.as_str().lines() {
-            answer = self.answer(rt, &call_of(line))?;
+    /// Makes these calls, one a line. Tells the last one's answer.
+    fn play<R: Wait>(&mut self, answer: &mut Answer, rt: &R, calls: &str) -> Option<()> {
+        for line in calls.lines() {
+            answer.clear();
+            self.call(answer, rt, &call_of(line))?;
         }
-        Ok(answer)
+        Some(())
     }
 }
 
-/// Makes these calls on a shard by itself that has done nothing. Gives the last one's answer.
+/// Makes these calls on a shard by itself that has done nothing. Tells the last one's answer.
 fn play_alone<N: NodeName, R: Wait>(
+    answer: &mut Answer,
     rt: &R,
     alloc: Global,
     made: Made,
     calls: &String,
-) -> Result<String, AllocError>
+) -> Option<()>
     requires race { made.cells ≡ N.race }
     requires lanes { made.far.lane ∷ [] ≡ N.lanes }
 {
-    let mut alone: Alone<N> = Alone::new(alloc, made)?;
-    let answer = alone.last_answer(rt, calls);
+    let mut alone: Alone<N> = Alone::new(alloc, made).ok()?;
+    let is_told = alone.play(answer, rt, calls.as_str());
     drop(alone);
-    answer
+    is_told
 }
 
 /// The same with its hub.
 fn play_beside<N: NodeName, R: Wait>(
+    answer: &mut Answer,
     rt: &R,
     alloc: Global,
     made: Made,
     calls: &String,
-) -> Result<String, AllocError>
+) -> Option<()>
     requires race { made.cells ≡ N.race }
     requires lanes { made.far.lane ∷ [] ≡ N.lanes }
 {
-    let mut beside: Beside<N> = Beside::new(alloc, made)?;
-    let answer = beside.last_answer(rt, calls);
+    let mut beside: Beside<N> = Beside::new(alloc, made).ok()?;
+    let is_told = beside.play(answer, rt, calls.as_str());
     drop(beside);
-    answer
+    is_told
 }
 
-/// Plays the calls on a shard by itself. Gives the last one's answer.
-pub fn alone_answer<R: Wait>(rt: &R, alloc: Global, calls: &String) -> Result<String, AllocError> {
-    let made = Made::new(alloc)?;
-    play_alone::<Brand, _>(rt, alloc, made, calls)
+/// Plays the calls on a shard by itself. Tells the last one's answer.
+pub fn alone_answer<R: Wait>(
+    answer: &mut Answer,
+    rt: &R,
+    alloc: Global,
+    calls: &String,
+) -> Option<()> {
+    let made = Made::new(alloc).ok()?;
+    play_alone::<Brand, _>(answer, rt, alloc, made, calls)
 }
 
 /// The same with its hub.
-pub fn beside_answer<R: Wait>(rt: &R, alloc: Global, calls: &String) -> Result<String, AllocError> {
-    let made = Made::new(alloc)?;
-    play_beside::<Brand, _>(rt, alloc, made, calls)
+pub fn beside_answer<R: Wait>(
+    answer: &mut Answer,
+    rt: &R,
+    alloc: Global,
+    calls: &String,
+) -> Option<()> {
+    let made = Made::new(alloc).ok()?;
+    play_beside::<Brand, _>(answer, rt, alloc, made, calls)
 }

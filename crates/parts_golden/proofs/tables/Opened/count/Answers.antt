@@ -2,7 +2,7 @@ use Rattle.std.proofs.Common.{◌+◌, sym, subst, arith}
 use Rattle.std.specs.Prelude.{◌<◌, ◌^◌, ◌≤◌, All, IfSome}
 use Rattle.sub_table.specs.declared.Subscription.{Subscription}
 use Rattle.parts_golden.proofs.Below.{below_counted}
-use Rattle.parts_golden.proofs.guarded.Opened.count.Goals as goal
+use Rattle.parts_golden.proofs.tables.Opened.count.Goals as goal
 
 pub count-requires : goal.count-requires
 count-requires g c =

@@ -1,6 +1,6 @@
 use Rattle.std.proofs.Common.{rules, ◌≡◌, [], ◌∷◌, ◌++◌}
 use Rattle.server_golden.proofs.Claims.{last_is, rest_is}
-use Rattle.server_golden.proofs.races.Two.new.Goals as goal
+use Rattle.server_golden.proofs.turn_calls.Two.new.Goals as goal
 
 pub invariant_of-result : goal.invariant_of-result
 invariant_of-result c =

@@ -1,6 +1,6 @@
 use Rattle.std.proofs.Common.{refl}
 use Rattle.server_golden.proofs.Laned.{each_at}
-use Rattle.server_golden.proofs.refusing_lanes.LanedHubHubCalls.publish_run.Goals as goal
+use Rattle.server_golden.proofs.mesh.LanedHubHubCalls.publish_run.Goals as goal
 
 pub returns : goal.returns
 returns g c = record {

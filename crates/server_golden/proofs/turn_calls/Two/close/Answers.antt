@@ -1,6 +1,6 @@
 use Rattle.std.proofs.Common.{rules, ◌≡◌, [], ◌∷◌}
 use Rattle.server_golden.proofs.Claims.{each_of_two}
-use Rattle.server_golden.proofs.races.Two.close.Goals as goal
+use Rattle.server_golden.proofs.turn_calls.Two.close.Goals as goal
 
 pub close-requires-clause-each : goal.close-requires-clause-each
 close-requires-clause-each c =
