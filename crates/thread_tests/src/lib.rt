@@ -9,8 +9,6 @@
 #[cfg(test)]
 mod claim_tests;
 #[cfg(test)]
-mod drain_tests;
-#[cfg(test)]
 mod incarnation_tests;
 #[cfg(test)]
 mod lane_tests;

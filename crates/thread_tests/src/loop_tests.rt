@@ -3,6 +3,7 @@
 
 ghost use Rattle.std.specs.Prelude.{◌≡◌};
 
+use crate::node_tests::{Node, report_of};
 use mio::net::{TcpListener, TcpStream};
 use mio::{Poll, Waker};
 use node_net::{PeerAddresses, Server as Connections, ServerControl, Shutdown, Sockets, WAKER};
@@ -17,11 +18,9 @@ use std::random::RandomSource;
 use std::rt::Clock;
 use std::sync::Wait;
 use std::sync::atomic::{AtomicU64, Ordering};
-use std::test::Fail;
 use std::thread;
 use std::thread::join;
 use std::time::{Duration, Instant};
-use sub_trie::TrieTable;
 use subj::{HostText, Incarnation, NodeId, ServerIdentity};
 use thread_node::{NodeName, Parts, ThreadNode};
 
@@ -48,22 +47,6 @@ struct Watch {
     refused: AtomicU64,
 }
 
-/// How many of these events are that a client was refused for what the system said.
-fn refused_in(events: &[Event]) -> u64 {
-    let mut count = 0_u64;
-    for event in events {
-        let is_refused = matches!(
-            event,
-            Event::ConnectionRefused {
-                caller: Caller::Client,
-                cause: RefusalCause::System(_),
-            }
-        );
-        count = count.saturating_add(u64::from(is_refused));
-    }
-    count
-}
-
 impl EventSink for Watch {
     fn filter(&self) -> LevelFilter {
         LevelFilter::Info
@@ -71,8 +54,17 @@ impl EventSink for Watch {
 
     fn take<R: Wait + Clock>(&self, _rt: &R, _server: NodeId, events: &mut Events) {
         self.rounds.fetch_add(1, Ordering::SeqCst);
-        let refused = refused_in(events.noted());
-        self.refused.fetch_add(refused, Ordering::SeqCst);
+        for event in events.noted() {
+            if matches!(
+                event,
+                Event::ConnectionRefused {
+                    caller: Caller::Client,
+                    cause: RefusalCause::System(_),
+                }
+            ) {
+                self.refused.fetch_add(1, Ordering::SeqCst);
+            }
+        }
         events.clear();
     }
 }
@@ -86,20 +78,14 @@ fn listener<R: Net + Abort>(rt: &R, port: u16) -> TcpListener {
     listener.expect(rt, "a port")
 }
 
-/// A listener at which accepting fails each time: the socket of a stream.
-fn shut_listener<R: Net + Abort>(rt: &R) -> TcpListener {
-    let stream = TcpStream::connect(rt, address_of(OWN)).ok();
-    TcpListener::from(OwnedFd::from(stream.expect(rt, "a stream")))
-}
-
-/// The sockets of a server, at which no client can be accepted.
+/// The sockets of a server. The listener for clients is the socket of a stream: so accepting fails each time.
 fn sockets<R: Net + Abort>(rt: &R) -> Sockets {
     let routes = listener(rt, OWN);
-    let clients = shut_listener(rt);
-    let poll = Poll::new(rt).ok().expect(rt, "a poll");
+    let stream = TcpStream::connect(rt, address_of(OWN)).ok();
+    let poll = Poll::new(rt).ok();
     Sockets {
-        poll,
-        clients,
+        poll: poll.expect(rt, "a poll"),
+        clients: TcpListener::from(OwnedFd::from(stream.expect(rt, "a stream"))),
         routes,
         control: None,
     }
@@ -154,7 +140,7 @@ fn run_on<C: ServerCalls, R: Abort + Wait + Net + Clock + RandomSource>(
     has_prompt_streams(&connections)
 }
 
-/// The same of a server of these parts.
+/// The same of a server of these parts, which has issued nothing at its end.
 fn run_named<N: NodeName, R: Abort + Wait + Net + Clock + RandomSource>(
     rt: &R,
     alloc: Global,
@@ -166,8 +152,11 @@ fn run_named<N: NodeName, R: Abort + Wait + Net + Clock + RandomSource>(
 ) -> bool
     requires { (parts.race ≡ N.race) × (parts.lanes ≡ N.lanes) × (parts.keep ≡ N.keep) }
 {
-    let node: ThreadNode<TrieTable, N> = ThreadNode::start(alloc, parts).ok().expect(rt, "memory");
-    run_on(rt, alloc, &node, sockets, addresses, shutdown, watch)
+    let node: Node<N> = ThreadNode::start(alloc, parts).ok().expect(rt, "memory");
+    let is_prompt = run_on(rt, alloc, &node, sockets, addresses, shutdown, watch);
+    let report = report_of(rt, alloc, node, Vec::new(alloc));
+    assert_eq!(rt; report.issued.get(), 0);
+    is_prompt
 }
 
 /// The same of a server that has just started.
@@ -196,28 +185,15 @@ fn close_dials(other: &TcpListener) -> u64 {
     count
 }
 
-/// Closes dials until there were so many, or none comes any more.
-fn close_first_dials<R: Clock>(rt: &R, other: &TcpListener, least: u64) -> u64 {
-    let mut count = 0_u64;
-    for _look in 0..LOOKS {
-        count = count.saturating_add(close_dials(other));
-        if count >= least {
-            break;
-        }
-        thread::sleep(rt, Duration::from_millis(PAUSE));
-    }
-    count
-}
-
-/// The next dial, which stays open; None where none comes any more.
-fn next_dial<R: Clock>(rt: &R, other: &TcpListener) -> Option<TcpStream> {
+/// The next dial, which stays open.
+fn next_dial<R: Clock + Abort>(rt: &R, other: &TcpListener) -> TcpStream {
     for _look in 0..LOOKS {
         if let Ok((stream, _)) = other.accept() {
-            return Some(stream);
+            return stream;
         }
         thread::sleep(rt, Duration::from_millis(PAUSE));
     }
-    None
+    panic!(rt; "no dial comes any more")
 }
 
 /// The addresses of both servers, of which that of the other one is not known yet.
@@ -233,68 +209,38 @@ fn tell_address<R: Wait + Abort>(rt: &R, alloc: Global, addresses: &PeerAddresse
     addresses.set(rt, 1, found.expect(rt, "memory"))
 }
 
-/// How many dials came before there was an address, how many that were closed, and how many while one was open.
-#[derive(Clone, Copy)]
-struct Dials {
-    early: u64,
-    closed: u64,
-    beside: u64,
-}
-
-/// The other server has its address after a while, closes each route for another while, and holds one at last; then all servers stop.
+/// The other server has its address after a while, closes each route for another while, and holds one at last; then all servers stop. No dial
+/// comes before there is an address, three to eight are closed, and none comes while one is open.
 fn refuses_routes<R: Clock + Wait + Abort>(
     rt: &R,
     alloc: Global,
     other: &TcpListener,
     addresses: &PeerAddresses,
     shutdown: &Shutdown,
-) -> Dials {
+) {
     thread::sleep(rt, Duration::from_millis(COUNTED));
-    let early = close_dials(other);
+    assert_eq!(rt; close_dials(other), 0);
     assert!(rt; tell_address(rt, alloc, addresses));
     assert!(rt; !tell_address(rt, alloc, addresses));
     shutdown.wake_all();
-    let first = close_first_dials(rt, other, 3);
+    for _dial in 0..3 {
+        drop(next_dial(rt, other));
+    }
     thread::sleep(rt, Duration::from_millis(COUNTED));
-    let closed = first.saturating_add(close_dials(other));
+    assert!(rt; close_dials(other) <= 5);
     let open = next_dial(rt, other);
     thread::sleep(rt, Duration::from_millis(OPEN));
-    let beside = close_dials(other);
+    assert_eq!(rt; close_dials(other), 0);
     shutdown.fail();
     drop(open);
-    Dials {
-        early,
-        closed,
-        beside,
-    }
-}
-
-/// What came of a loop that cannot accept, and whose routes are refused.
-#[derive(Clone, Copy)]
-struct Paused {
-    is_prompt: bool,
-    dials: Dials,
-    refused: u64,
-    rounds: u64,
-    milliseconds: u128,
 }
 
 /// The loop stops at once in the end, has told once that nobody can be accepted, has waited between its dials, and has made no more rounds
 /// than one in a millisecond.
-fn assert_paused(rt: &impl Abort, paused: &Paused) {
-    assert!(rt; paused.is_prompt);
-    assert!(rt; paused.dials.early == 0 && paused.dials.beside == 0);
-    assert!(rt; paused.dials.closed >= 3 && paused.dials.closed <= 8);
-    assert_eq!(rt; paused.refused, 1);
-    assert!(rt; u128::from(paused.rounds) <= paused.milliseconds.saturating_add(100));
-}
-
 #[test]
-fn a_loop_pauses_where_accepting_fails_and_each_route_is_refused(
-    rt: HostRuntime,
-) -> Result<(), Fail> {
+fn a_loop_pauses_where_accepting_fails_and_each_route_is_refused(rt: HostRuntime) {
     let alloc = rt.alloc();
-    let start = Instant::now(&rt)?;
+    let start = Instant::now(&rt).ok().expect(&rt, "a time");
     let other = listener(&rt, OTHER);
     let sockets = sockets(&rt);
     let shutdown = shutdown(&rt, alloc, &sockets.poll);
@@ -303,30 +249,25 @@ fn a_loop_pauses_where_accepting_fails_and_each_route_is_refused(
         rounds: AtomicU64::new(0),
         refused: AtomicU64::new(0),
     };
-    let (is_prompt, dials) = join(
+    let (is_prompt, ()) = join(
         &rt,
         || run(&rt, alloc, sockets, &addresses, &shutdown, &watch),
         || refuses_routes(&rt, alloc, &other, &addresses, &shutdown),
     );
-    let paused = Paused {
-        is_prompt,
-        dials,
-        refused: watch.refused.load(Ordering::SeqCst),
-        rounds: watch.rounds.load(Ordering::SeqCst),
-        milliseconds: start.elapsed(&rt)?.as_millis(),
-    };
-    assert_paused(&rt, &paused);
-    Ok(())
+    assert!(rt; is_prompt);
+    assert_eq!(rt; watch.refused.load(Ordering::SeqCst), 1);
+    let took = start.elapsed(&rt).ok().expect(&rt, "a time");
+    let rounds = u128::from(watch.rounds.load(Ordering::SeqCst));
+    assert!(rt; rounds <= took.as_millis().saturating_add(100));
 }
 
 /// The one server of a process that stands at the third place of its cluster is asked to drain by that place, and no other is.
 #[test]
-fn a_server_is_asked_to_drain_by_its_place_in_the_cluster(rt: HostRuntime) -> Result<(), Fail> {
-    let poll = Poll::new(&rt)?;
+fn a_server_is_asked_to_drain_by_its_place_in_the_cluster(rt: HostRuntime) {
+    let poll = Poll::new(&rt).ok().expect(&rt, "a poll");
     let mut shutdown = shutdown(&rt, rt.alloc(), &poll);
     shutdown.set_first_place(2);
     assert!(rt; !shutdown.ask_drain(0) && !shutdown.ask_drain(1) && !shutdown.ask_drain(3));
     assert!(rt; shutdown.ask_drain(2));
     assert!(rt; shutdown.asks(0) == 0 && shutdown.asks(1) == 0 && shutdown.asks(2) == 1);
-    Ok(())
 }

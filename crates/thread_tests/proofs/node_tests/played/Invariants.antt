@@ -1,4 +1,4 @@
-use Rattle.thread_tests.proofs.node_tests.workers_sleep_and_stop.Given as goal
+use Rattle.thread_tests.proofs.node_tests.played.Given as goal
 
 -- the server of the parts that were just made
 abbrev pub ghosts-stage : goal.ghosts-stage
