@@ -1,9 +1,9 @@
 //! Why a mesh is not served, and why none drains.
 
-use crate::secret::SecretFileFault;
 use event_log::StartFault;
 use incarnation_file::{OpenFault, RaiseFault};
 use mesh_file::MeshFault;
+use peer_proof::SecretFault;
 use std::alloc::{AllocError, AllocFailed};
 use std::fmt::{Display, Formatter, Write};
 use std::net::SocketAddr;
@@ -50,7 +50,7 @@ impl Display for ServeFault {
             ServeFault::Control(error) => {
                 write!(f, "the socket of --control is not to be had: {error}")
             }
-            ServeFault::Failed(error) => write!(f, "{error}"),
+            ServeFault::Failed(error) => Display::fmt(error, f),
             ServeFault::NoCluster => f.write_str("the servers are no cluster"),
             ServeFault::NoLog => f.write_str("no thread for what standard error is told"),
             ServeFault::NoNames => f.write_str("no thread for looking up the name of a host"),
@@ -92,6 +92,35 @@ impl From<io::Error> for ServeFault {
     }
 }
 
+/// Why a file has no secret that is taken. The causes stand in the order in which they are found.
+#[derive(Drop)]
+pub enum SecretFileFault {
+    /// It cannot be read.
+    Unread(io::Error),
+    /// Its mode lets others than its owner have it.
+    Shared,
+    /// It has too few bytes, or too many.
+    Bad(SecretFault),
+}
+
+impl Display for SecretFileFault {
+    fn fmt<W: Write>(&self, f: &mut Formatter<W>) -> fmt::Result {
+        match self {
+            SecretFileFault::Unread(error) => write!(f, "it cannot be read: {error}"),
+            SecretFileFault::Shared => {
+                f.write_str("its mode lets others than its owner have it: 0600 is wanted")
+            }
+            SecretFileFault::Bad(fault) => Display::fmt(fault, f),
+        }
+    }
+}
+
+impl From<io::Error> for SecretFileFault {
+    fn from(error: io::Error) -> SecretFileFault {
+        SecretFileFault::Unread(error)
+    }
+}
+
 /// Why one server of a mesh is not served. The causes stand in the order in which they are found.
 #[derive(Drop)]
 pub enum NodeFault {
@@ -109,10 +138,8 @@ pub enum NodeFault {
     NoIncarnation(RaiseFault),
     /// The host of this server's routes has no address.
     Unresolved { server: NodeId, error: io::Error },
-    /// The server is not served any more.
+    /// The server is not served any more, or there was no memory.
     Served(ServeFault),
-    /// There was no memory.
-    OutOfMemory,
 }
 
 impl NodeFault {
@@ -137,8 +164,8 @@ impl Display for NodeFault {
                 write!(f, "the file of the mesh has no server {}", name.text())
             }
             NodeFault::Secret(fault) => write!(f, "the secret_file of the mesh: {fault}"),
-            NodeFault::Folder(fault) => write!(f, "{fault}"),
-            NodeFault::NoIncarnation(fault) => write!(f, "{fault}"),
+            NodeFault::Folder(fault) => Display::fmt(fault, f),
+            NodeFault::NoIncarnation(fault) => Display::fmt(fault, f),
             NodeFault::Unresolved { server, error } => {
                 write!(
                     f,
@@ -146,8 +173,7 @@ impl Display for NodeFault {
                     server.text()
                 )
             }
-            NodeFault::Served(fault) => write!(f, "{fault}"),
-            NodeFault::OutOfMemory => f.write_str("out of memory"),
+            NodeFault::Served(fault) => Display::fmt(fault, f),
         }
     }
 }
@@ -156,7 +182,7 @@ impl From<Failure<MeshFault>> for NodeFault {
     fn from(fault: Failure<MeshFault>) -> NodeFault {
         match fault {
             Failure::Refused(fault) => NodeFault::NoMesh(fault),
-            Failure::OutOfMemory => NodeFault::OutOfMemory,
+            Failure::OutOfMemory => NodeFault::Served(ServeFault::OutOfMemory),
         }
     }
 }
@@ -182,18 +208,6 @@ impl From<RaiseFault> for NodeFault {
 impl From<ServeFault> for NodeFault {
     fn from(fault: ServeFault) -> NodeFault {
         NodeFault::Served(fault)
-    }
-}
-
-impl<T: Drop> From<AllocFailed<T>> for NodeFault {
-    fn from(_: AllocFailed<T>) -> NodeFault {
-        NodeFault::OutOfMemory
-    }
-}
-
-impl From<AllocError> for NodeFault {
-    fn from(_: AllocError) -> NodeFault {
-        NodeFault::OutOfMemory
     }
 }
 

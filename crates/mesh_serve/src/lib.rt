@@ -7,23 +7,17 @@
 //! serve(rt, rt.alloc(), &options)?;
 //! ```
 //!
-//! `node` reads the file of a mesh and has one server of it served. `planned` says which servers a process has and where they are reached;
-//! `serving` binds their sockets and gives each a thread; `names` looks up the names of hosts, each in a thread of its own; `control` has both
-//! ends of the socket by which they are told to drain; `faults` are the causes for which a mesh is not served any more, and for which none
-//! drains.
+//! `planned` says which servers a process has and where they are reached; `serving` reads the file of a mesh where there is one, binds the sockets of
+//! these servers, gives each a thread, and has the names of other servers' hosts looked up, each in a thread of its own; `control` has both ends of the
+//! socket by which they are told to drain; `faults` are the causes for which a mesh is not served any more, and for which none drains.
 #![tactic(auto)]
 
 mod control;
 mod faults;
-mod names;
-mod node;
 mod planned;
-mod secret;
 mod serving;
 
 pub use control::ask_drain;
-pub use faults::{DrainFault, NodeFault, ServeFault};
-pub use node::{check_mesh, serve_node};
+pub use faults::{DrainFault, NodeFault, SecretFileFault, ServeFault};
 pub use planned::ready_line;
-pub use secret::SecretFileFault;
-pub use serving::serve;
+pub use serving::{check_mesh, serve, serve_node};

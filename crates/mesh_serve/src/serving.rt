@@ -1,34 +1,54 @@
-//! Servers of one process, each in a thread of its own.
+//! Servers of one process, each in a thread of its own, and what is done at the start of a process: its sockets are bound, and the names of other
+//! servers' hosts are looked up.
+//!
+//! A name is looked up in a thread of its own, as long as the process runs, so that no server waits for a name. These threads end with the process:
+//! nobody waits for a look-up.
 
 ghost use Rattle.std.specs.Prelude.{◌≡◌};
 ghost use Rattle.router_command.specs.Ranges.{AreWithin};
 
 use crate::control::{bind_control, remove_control};
-use crate::faults::ServeFault;
-use crate::names::{Shared, look_up_names, share};
-use crate::planned::{Ends, Orders, Plan, PlannedServer, plan_of, ready_text};
+use crate::faults::{NodeFault, SecretFileFault, ServeFault};
+use crate::planned::{Ends, Orders, Plan, PlannedServer, is_of_host, plan_at, plan_of, ready_text};
 use event_log::EventLog;
-use mesh_file::RouteAddress;
+use incarnation_file::{FileDisk, raise};
+use mesh_file::{MeshFile, RouteAddress, RouteHost};
 use mio::net::TcpListener;
 use mio::{Poll, Waker};
 use node_net::{
     Control, PeerAddresses, Server as Connections, ServerControl, Shutdown, Sockets, WAKER,
 };
-use router_command::Options;
+use peer_proof::{MOST_SECRET, Secret};
+use router_command::{NodeOptions, Options};
 use server_calls::ServerCalls;
 use server_events::{Event, SystemCause};
-use std::alloc::Global;
-use std::fs::Files;
+use std::alloc::{AllocError, Global};
+use std::fs::{File, Files};
+use std::io::Read;
 use std::marker::Brand;
-use std::net::{Net, SocketAddr, TcpListener as Listener, TcpStream as Stream};
+use std::net::{Net, SocketAddr, TcpListener as Listener, TcpStream as Stream, ToSocketAddrs};
+use std::os::unix::fs::MetadataExt;
 use std::random::RandomSource;
 use std::rt::Clock;
 use std::sync::{Arc, OnceLock, Wait};
 use std::thread::Threads;
-use std::{io, thread};
+use std::time::Duration;
+use std::{fs, io, thread};
 use sub_trie::TrieTable;
-use subj::NodeId;
+use subj::{HostText, Incarnation, NodeId, ServerIdentity};
 use thread_node::{NodeName, Parts, ThreadNode};
+
+/// The bits of a file's mode that let its group or others read, write or run it.
+const SHARED: u32 = 0o077;
+
+/// The most bytes of a file with a secret that are read: those of the secret, the line feed behind it, and one that is too many.
+const MOST_READ: u64 = MOST_SECRET as u64 + 2;
+
+/// For how many seconds nothing is looked up where the server is reached and nobody else came.
+const LONGEST_PAUSE: u64 = 30;
+
+/// The same where the name has no address.
+const SHORTEST_PAUSE: u64 = 1;
 
 /// A server before it runs.
 #[derive(Drop)]
@@ -37,31 +57,21 @@ struct BoundServer {
     sockets: Sockets,
 }
 
-/// Binds an address.
-fn bind<R: Net>(rt: &R, address: SocketAddr) -> Result<TcpListener, ServeFault> {
-    match TcpListener::bind(rt, address) {
-        Ok(listener) => Ok(listener),
-        Err(error) => Err(ServeFault::Address { address, error }),
-    }
+/// What the threads of a process share while one of them runs.
+#[derive(Drop)]
+struct Shared {
+    /// Where other servers are reached, and whence they come.
+    addresses: PeerAddresses,
+    /// When the servers of the process stop.
+    shutdown: Shutdown,
 }
 
-/// Where clients and other servers connect to a server.
-fn listeners<R: Net>(rt: &R, ends: Ends) -> Result<(TcpListener, TcpListener), ServeFault> {
-    let clients = bind(rt, ends.clients)?;
-    let routes = bind(rt, ends.routes)?;
-    Ok((clients, routes))
-}
-
-/// The sockets of a server.
-fn sockets<R: Net>(rt: &R, ends: Ends) -> Result<Sockets, ServeFault> {
-    let poll = Poll::new(rt)?;
-    let (clients, routes) = listeners(rt, ends)?;
-    Ok(Sockets {
-        poll,
-        clients,
-        routes,
-        control: None,
-    })
+/// A mesh before it runs: its servers, where other servers connect to each, and what they share.
+#[derive(Drop)]
+struct BoundMesh {
+    servers: Vec<BoundServer>,
+    routes: Vec<RouteAddress>,
+    shared: Arc<Shared>,
 }
 
 /// What the servers of a mesh share.
@@ -76,6 +86,311 @@ struct Mesh<'a> {
     log: &'a EventLog,
 }
 
+/// A server of the mesh whose host has a name.
+#[derive(Clone, Copy)]
+struct NamedPeer {
+    /// The server at which it is told what comes of the name.
+    server: NodeId,
+    peer: NodeId,
+    place: usize,
+    name: HostText,
+    port: u16,
+}
+
+/// Binds an address.
+fn bind<R: Net>(rt: &R, address: SocketAddr) -> Result<TcpListener, ServeFault> {
+    match TcpListener::bind(rt, address) {
+        Ok(listener) => Ok(listener),
+        Err(error) => Err(ServeFault::Address { address, error }),
+    }
+}
+
+/// The sockets of a server.
+fn sockets<R: Net>(rt: &R, ends: Ends) -> Result<Sockets, ServeFault> {
+    Ok(Sockets {
+        poll: Poll::new(rt)?,
+        clients: bind(rt, ends.clients)?,
+        routes: bind(rt, ends.routes)?,
+        control: None,
+    })
+}
+
+/// Puts a server behind the others, with its sockets bound.
+fn push_bound<R: Net>(
+    all: &mut Vec<BoundServer>,
+    rt: &R,
+    planned: PlannedServer,
+) -> Result<(), ServeFault> {
+    let sockets = sockets(rt, planned.ends)?;
+    all.push(BoundServer { planned, sockets })?;
+    Ok(())
+}
+
+/// These servers, with their sockets bound.
+fn bound_servers<R: Net>(
+    rt: &R,
+    alloc: Global,
+    planned: Vec<PlannedServer>,
+) -> Result<Vec<BoundServer>, ServeFault> {
+    let mut all = Vec::new(alloc);
+    for server in planned {
+        push_bound(&mut all, rt, server)?;
+    }
+    Ok(all)
+}
+
+/// What wakes each server, and tells it to drain.
+fn controls(alloc: Global, servers: &[BoundServer]) -> Result<Vec<ServerControl>, ServeFault> {
+    let mut all = Vec::new(alloc);
+    for server in servers {
+        let waker = Waker::new(server.sockets.poll.registry(), WAKER)?;
+        all.push(ServerControl::new(waker))?;
+    }
+    Ok(all)
+}
+
+/// The servers of a process, with their sockets bound, and when they stop, for which each is woken.
+fn servers_to_wake<R: Net>(
+    rt: &R,
+    alloc: Global,
+    planned: Vec<PlannedServer>,
+    orders: Orders<'_>,
+) -> Result<(Vec<BoundServer>, Shutdown), ServeFault> {
+    let servers = bound_servers(rt, alloc, planned)?;
+    let controls = controls(alloc, &servers)?;
+    let mut shutdown = Shutdown::new(orders.stop_after, controls);
+    shutdown.set_drain_seconds(orders.drain_seconds);
+    if let Some(first) = servers.first() {
+        shutdown.set_first_place(first.planned.life.me());
+    }
+    Ok((servers, shutdown))
+}
+
+/// Where other servers are reached, by what is known of these routes without looking up a name.
+fn known_addresses(alloc: Global, routes: &[RouteAddress]) -> Result<PeerAddresses, AllocError> {
+    let mut known = Vec::new(alloc);
+    for routes in routes {
+        known.push(match routes.host {
+            RouteHost::Ip(ip) => Some(SocketAddr::new(ip, routes.port)),
+            RouteHost::Name(_) => None,
+        })?;
+    }
+    PeerAddresses::new(alloc, &known)
+}
+
+/// What the threads share of a process whose mesh has these routes.
+fn share(
+    alloc: Global,
+    routes: &[RouteAddress],
+    shutdown: Shutdown,
+) -> Result<Arc<Shared>, AllocError> {
+    let addresses = known_addresses(alloc, routes)?;
+    let shared = Shared {
+        addresses,
+        shutdown,
+    };
+    Ok(Arc::new(alloc, shared)?)
+}
+
+/// The servers of a plan, whose sockets are bound.
+fn bound_mesh<R: Net>(
+    rt: &R,
+    alloc: Global,
+    plan: Plan,
+    orders: Orders<'_>,
+) -> Result<BoundMesh, ServeFault> {
+    let Plan { servers, routes } = plan;
+    let (servers, shutdown) = servers_to_wake(rt, alloc, servers, orders)?;
+    let shared = share(alloc, &routes, shutdown)?;
+    Ok(BoundMesh {
+        servers,
+        routes,
+        shared,
+    })
+}
+
+/// Has the first server take what operators say at this path.
+fn control_at<R: Files + Net>(
+    rt: &R,
+    alloc: Global,
+    bound: &mut BoundMesh,
+    path: &str,
+) -> Result<(), ServeFault> {
+    let listener = bind_control(rt, path)?;
+    if let Some(first) = bound.servers.first_mut() {
+        first.sockets.control = Some(Control::new(alloc, listener));
+    }
+    Ok(())
+}
+
+/// The addresses of a name with this port, none of them twice; there is none where the look-up failed. May wait for long.
+fn look_up<R: Net>(
+    rt: &R,
+    alloc: Global,
+    name: &str,
+    port: u16,
+) -> Result<Vec<SocketAddr>, AllocError> {
+    let mut all = Vec::new(alloc);
+    if let Ok(found) = (name, port).to_socket_addrs(rt) {
+        for address in found {
+            if is_of_host(address) && !all.contains(&address) {
+                all.push(address)?;
+            }
+        }
+    }
+    Ok(all)
+}
+
+/// Waits for a pause of so many seconds, or until the name of the server at this place is to be looked up although the pause is not over: the server is
+/// not reached, or somebody has come from an address of no server, who may be it.
+fn pause<R: Clock>(rt: &R, shared: &Shared, place: usize, seconds: u64) {
+    let strangers = shared.addresses.strangers();
+    for _second in 0..seconds {
+        thread::sleep(rt, Duration::from_secs(1));
+        if !shared.addresses.is_reached(place) || shared.addresses.strangers() != strangers {
+            return;
+        }
+    }
+}
+
+impl NamedPeer {
+    /// The server at this place, where its host has a name. What comes of the name is told at this server.
+    fn at(life: &ServerIdentity, place: usize, routes: &RouteAddress) -> Option<NamedPeer> {
+        let peer = life.names().get(place).copied()?;
+        match routes.host {
+            RouteHost::Ip(_) => None,
+            RouteHost::Name(name) => Some(NamedPeer {
+                server: life.name(),
+                peer,
+                place,
+                name,
+                port: routes.port,
+            }),
+        }
+    }
+
+    /// The name has these addresses now, after so many look-ups without one. It is told where they are others than before, or there were such
+    /// look-ups. Whether there is an address.
+    fn take<R: Wait + Clock>(
+        &self,
+        rt: &R,
+        addresses: Vec<SocketAddr>,
+        failures: u64,
+        shared: &Shared,
+        log: &EventLog,
+    ) -> bool {
+        let Some(address) = addresses.first().copied() else {
+            return false;
+        };
+        let has_changed = shared.addresses.set(rt, self.place, addresses);
+        if has_changed {
+            shared.shutdown.wake_all();
+        }
+        if has_changed || failures > 0 {
+            let peer = self.peer;
+            let event = Event::PeerResolved {
+                peer,
+                address,
+                failures,
+            };
+            log.tell(rt, self.server, event);
+        }
+        true
+    }
+
+    /// Looks the name up once, after so many look-ups without an address. How many there are now.
+    fn look<R: Wait + Net<Listener = Listener, Stream = Stream> + Clock>(
+        &self,
+        rt: &R,
+        alloc: Global,
+        failures: u64,
+        shared: &Shared,
+        log: &EventLog,
+    ) -> u64 {
+        let found = match look_up(rt, alloc, self.name.as_str(), self.port) {
+            Ok(addresses) => self.take(rt, addresses, failures, shared, log),
+            Err(_) => return failures,
+        };
+        if found {
+            return 0;
+        }
+        if failures == 0 {
+            let peer = self.peer;
+            log.tell(rt, self.server, Event::PeerUnresolved { peer });
+        }
+        failures.saturating_add(1)
+    }
+
+    /// Looks the name up again and again, until the servers of the process stop. May wait, and for ever.
+    fn look_on<R: Wait + Net<Listener = Listener, Stream = Stream> + Clock>(
+        &self,
+        rt: &R,
+        alloc: Global,
+        shared: &Shared,
+        log: &EventLog,
+    ) {
+        let mut failures = 0;
+        for _look in rt.forever() {
+            if shared.shutdown.is_over() {
+                return;
+            }
+            failures = self.look(rt, alloc, failures, shared, log);
+            let seconds = if failures > 0 {
+                SHORTEST_PAUSE
+            } else {
+                LONGEST_PAUSE
+            };
+            pause(rt, shared, self.place, seconds);
+        }
+    }
+
+    /// Begins a thread that looks the name up. It ends with the process, and nobody waits for it.
+    fn start<
+        R: Threads
+            + Wait
+            + Net<Listener = Listener, Stream = Stream>
+            + Clock
+            + Copy
+            + Send
+            + 'static,
+    >(
+        self,
+        rt: &R,
+        alloc: Global,
+        shared: Arc<Shared>,
+        log: Arc<EventLog>,
+    ) -> Result<(), ServeFault> {
+        let own = *rt;
+        match thread::spawn(rt, move || self.look_on(&own, alloc, &shared, &log)) {
+            Ok(_) => Ok(()),
+            Err(_) => Err(ServeFault::NoNames),
+        }
+    }
+}
+
+/// Has the names of hosts looked up that this server dials, the only one of its process where there are names, as long as the process runs: behind a
+/// look-up that gave no address after a second; behind one that gave one after a second where its server is not reached or somebody came from an
+/// address of no server, and after half a minute else. Addresses that a name had stay while it has none. What comes of it is told at this server.
+fn look_up_names<
+    R: Threads + Wait + Net<Listener = Listener, Stream = Stream> + Clock + Copy + Send + 'static,
+>(
+    rt: &R,
+    alloc: Global,
+    life: &ServerIdentity,
+    routes: &[RouteAddress],
+    shared: &Arc<Shared>,
+    log: &Arc<EventLog>,
+) -> Result<(), ServeFault> {
+    for (place, routes) in routes.iter().enumerate() {
+        if let Some(peer) = NamedPeer::at(life, place, routes) {
+            let shared = Arc::try_clone(shared)?;
+            let log = Arc::try_clone(log)?;
+            peer.start(rt, alloc, shared, log)?;
+        }
+    }
+    Ok(())
+}
+
 impl Mesh<'_> {
     /// All servers stop, for this cause where there was none before.
     fn stop<R: Wait>(&self, rt: &R, cause: ServeFault) {
@@ -83,11 +398,16 @@ impl Mesh<'_> {
         self.shutdown.fail();
     }
 
-    /// The server of this name could not go on: all of them stop.
-    fn fail<R: Wait + Clock>(&self, rt: &R, server: NodeId, error: io::Error) {
-        let cause = SystemCause::of(&error);
-        self.log.tell(rt, server, Event::Failed { cause });
-        self.stop(rt, ServeFault::Stopped { server, error });
+    /// The server of this name ended so. Where it could not go on, all of them stop.
+    fn hear_end<R: Wait + Clock>(&self, rt: &R, server: NodeId, ended: io::Result<()>) {
+        match ended {
+            Ok(()) => self.log.tell(rt, server, Event::Stopped),
+            Err(error) => {
+                let cause = SystemCause::of(&error);
+                self.log.tell(rt, server, Event::Failed { cause });
+                self.stop(rt, ServeFault::Stopped { server, error });
+            }
+        }
     }
 }
 
@@ -134,20 +454,6 @@ fn run_server<R: Wait + Net<Listener = Listener, Stream = Stream> + RandomSource
     run_named::<Brand, _>(rt, alloc, parts, server, mesh)
 }
 
-/// Runs a server; where it cannot go on, all of them stop.
-fn work<R: Wait + Net<Listener = Listener, Stream = Stream> + RandomSource + Clock>(
-    rt: &R,
-    alloc: Global,
-    server: BoundServer,
-    mesh: Mesh<'_>,
-) {
-    let name = server.planned.life.name();
-    match run_server(rt, alloc, server, mesh) {
-        Ok(()) => mesh.log.tell(rt, name, Event::Stopped),
-        Err(error) => mesh.fail(rt, name, error),
-    }
-}
-
 /// Runs all servers, each in a thread of its own. The error is the first cause for which they stop.
 fn run_all<
     'm,
@@ -169,7 +475,8 @@ fn run_all<
     thread::scope(thread::scope_env(), rt, |scope| {
         for server in servers {
             let name = server.planned.life.name();
-            if scope.spawn(move || work(rt, alloc, server, mesh)).is_err() {
+            let run = move || mesh.hear_end(rt, name, run_server(rt, alloc, server, mesh));
+            if scope.spawn(run).is_err() {
                 mesh.stop(rt, ServeFault::NoThread { server: name });
             }
         }
@@ -180,142 +487,54 @@ fn run_all<
     }
 }
 
-/// Tells on standard output that all servers can be reached, a line each.
-fn tell<R: Print>(rt: &R, alloc: Global, servers: &[BoundServer]) -> io::Result<()> {
+/// Tells on standard output that all servers can be reached, a line each, and then the log where each listens.
+fn tell_ready<R: Wait + Clock + Print>(
+    rt: &R,
+    alloc: Global,
+    servers: &[BoundServer],
+    log: &EventLog,
+) -> io::Result<()> {
     for server in servers {
-        let line = ready_text(alloc, &server.planned)?;
+        let line = ready_text(alloc, server.planned.life.name(), server.planned.ends)?;
         println!(rt; "{line}")?;
     }
-    Ok(())
-}
-
-/// Tells the log where each server listens.
-fn tell_log<R: Wait + Clock>(rt: &R, servers: &[BoundServer], log: &EventLog) {
     for server in servers {
         let Ends { clients, routes } = server.planned.ends;
         let listening = Event::Listening { clients, routes };
         log.tell(rt, server.planned.life.name(), listening);
     }
-}
-
-/// Puts a server behind the others, with its sockets bound.
-fn push_bound<R: Net>(
-    all: &mut Vec<BoundServer>,
-    rt: &R,
-    planned: PlannedServer,
-) -> Result<(), ServeFault> {
-    let sockets = sockets(rt, planned.ends)?;
-    all.push(BoundServer { planned, sockets })?;
     Ok(())
 }
 
-/// These servers, with their sockets bound.
-fn bound_servers<R: Net>(
+/// Tells standard output and the log that the mesh is ready, and runs it, whose sockets are bound.
+fn run_told<R>(
     rt: &R,
     alloc: Global,
-    planned: Vec<PlannedServer>,
-) -> Result<Vec<BoundServer>, ServeFault> {
-    let mut all = Vec::new(alloc);
-    for server in planned {
-        push_bound(&mut all, rt, server)?;
-    }
-    Ok(all)
-}
-
-/// What wakes each server, and tells it to drain.
-fn controls(alloc: Global, servers: &[BoundServer]) -> Result<Vec<ServerControl>, ServeFault> {
-    let mut all = Vec::new(alloc);
-    for server in servers {
-        let waker = Waker::new(server.sockets.poll.registry(), WAKER)?;
-        all.push(ServerControl::new(waker))?;
-    }
-    Ok(all)
-}
-
-/// A mesh before it runs: its servers, where other servers connect to each, and what they share.
-#[derive(Drop)]
-struct BoundMesh {
-    servers: Vec<BoundServer>,
-    routes: Vec<RouteAddress>,
-    shared: Arc<Shared>,
-}
-
-/// The servers of a process, with their sockets bound, and when they stop, for which each is woken.
-fn servers_to_wake<R: Net>(
-    rt: &R,
-    alloc: Global,
-    planned: Vec<PlannedServer>,
-    orders: Orders<'_>,
-) -> Result<(Vec<BoundServer>, Shutdown), ServeFault> {
-    let servers = bound_servers(rt, alloc, planned)?;
-    let controls = controls(alloc, &servers)?;
-    let mut shutdown = Shutdown::new(orders.stop_after, controls);
-    shutdown.set_drain_seconds(orders.drain_seconds);
-    if let Some(first) = servers.first() {
-        shutdown.set_first_place(first.planned.life.me());
-    }
-    Ok((servers, shutdown))
-}
-
-/// The servers of a plan, whose sockets are bound.
-fn bound_mesh<R: Net>(
-    rt: &R,
-    alloc: Global,
-    plan: Plan,
-    orders: Orders<'_>,
-) -> Result<BoundMesh, ServeFault> {
-    let Plan { servers, routes } = plan;
-    let (servers, shutdown) = servers_to_wake(rt, alloc, servers, orders)?;
-    let shared = share(alloc, &routes, shutdown)?;
-    Ok(BoundMesh {
-        servers,
-        routes,
-        shared,
-    })
-}
-
-/// Has the first server take what operators say at this path.
-fn control_at<R: Files + Net>(
-    rt: &R,
-    alloc: Global,
-    bound: &mut BoundMesh,
-    path: &str,
-) -> Result<(), ServeFault> {
-    let listener = bind_control(rt, path)?;
-    if let Some(first) = bound.servers.first_mut() {
-        first.sockets.control = Some(Control::new(alloc, listener));
-    }
-    Ok(())
-}
-
-/// Serves a mesh whose sockets are bound, and has it take what operators say where a path is given, whose file is gone at the end.
-fn serve_controlled<R>(
-    rt: &R,
-    alloc: Global,
-    orders: Orders<'_>,
-    mut bound: BoundMesh,
+    bound: BoundMesh,
+    log: &Arc<EventLog>,
 ) -> Result<(), ServeFault>
 where
     R: Threads
         + Wait
         + Net<Listener = Listener, Stream = Stream>
         + RandomSource
-        + Files
         + Clock
         + Print
-        + Eprint
         + Copy
         + Send
         + Sync
         + 'static,
 {
-    let Some(path) = orders.control else {
-        return serve_logged(rt, alloc, orders, bound);
-    };
-    control_at(rt, alloc, &mut bound, path)?;
-    let ended = serve_logged(rt, alloc, orders, bound);
-    remove_control(rt, path);
-    ended
+    let BoundMesh {
+        servers,
+        routes,
+        shared,
+    } = bound;
+    if let Some(first) = servers.first() {
+        look_up_names(rt, alloc, &first.planned.life, &routes, &shared, log)?;
+    }
+    tell_ready(rt, alloc, &servers, log)?;
+    run_all(rt, alloc, servers, &shared, log)
 }
 
 /// Serves a mesh whose sockets are bound, and tells standard error of it.
@@ -344,62 +563,8 @@ where
     ended
 }
 
-/// Has the names of hosts looked up that the first server dials, which is the only one of its process where there are names.
-fn seek_peers<R>(
-    rt: &R,
-    alloc: Global,
-    bound: &BoundMesh,
-    log: &Arc<EventLog>,
-) -> Result<(), ServeFault>
-where
-    R: Threads + Wait + Net<Listener = Listener, Stream = Stream> + Clock + Copy + Send + 'static,
-{
-    match bound.servers.first() {
-        None => Ok(()),
-        Some(first) => {
-            let life = &first.planned.life;
-            look_up_names(rt, alloc, life, &bound.routes, &bound.shared, log)
-        }
-    }
-}
-
-/// Tells standard output and the log that the mesh is ready, and runs it, whose sockets are bound.
-fn run_told<R>(
-    rt: &R,
-    alloc: Global,
-    bound: BoundMesh,
-    log: &Arc<EventLog>,
-) -> Result<(), ServeFault>
-where
-    R: Threads
-        + Wait
-        + Net<Listener = Listener, Stream = Stream>
-        + RandomSource
-        + Clock
-        + Print
-        + Copy
-        + Send
-        + Sync
-        + 'static,
-{
-    seek_peers(rt, alloc, &bound, log)?;
-    let BoundMesh {
-        servers,
-        shared,
-        ..
-    } = bound;
-    tell(rt, alloc, &servers)?;
-    tell_log(rt, &servers, log);
-    run_all(rt, alloc, servers, &shared, log)
-}
-
-/// Serves the servers of a plan, each in a thread of its own.
-pub(crate) fn serve_plan<R>(
-    rt: &R,
-    alloc: Global,
-    plan: Plan,
-    orders: Orders<'_>,
-) -> Result<(), ServeFault>
+/// Serves the servers of a plan, each in a thread of its own. They take what operators say where a path is given, whose file is gone at the end.
+fn serve_plan<R>(rt: &R, alloc: Global, plan: Plan, orders: Orders<'_>) -> Result<(), ServeFault>
 where
     R: Threads
         + Wait
@@ -414,8 +579,14 @@ where
         + Sync
         + 'static,
 {
-    let bound = bound_mesh(rt, alloc, plan, orders)?;
-    serve_controlled(rt, alloc, orders, bound)
+    let mut bound = bound_mesh(rt, alloc, plan, orders)?;
+    let Some(path) = orders.control else {
+        return serve_logged(rt, alloc, orders, bound);
+    };
+    control_at(rt, alloc, &mut bound, path)?;
+    let ended = serve_logged(rt, alloc, orders, bound);
+    remove_control(rt, path);
+    ended
 }
 
 /// Serves the mesh that the options tell of, each server in a thread of its own. When all sockets are bound, a
@@ -443,4 +614,122 @@ where
 {
     let plan = plan_of(alloc, options)?;
     serve_plan(rt, alloc, plan, Orders::of(options))
+}
+
+/// The mesh that the file at this path describes.
+fn read_mesh<R: Files + Alloc<A = Global>>(rt: &R, path: &str) -> Result<MeshFile, NodeFault> {
+    match fs::read_to_string(rt, path) {
+        Ok(text) => Ok(MeshFile::read(rt.alloc(), &text)?),
+        Err(error) => Err(NodeFault::Unread(error)),
+    }
+}
+
+/// Tells on standard output what the file at this path means. The error says why it describes no mesh, or that
+/// standard output failed.
+pub fn check_mesh<R: Files + Print + Alloc<A = Global>>(
+    rt: &R,
+    path: &str,
+) -> Result<(), NodeFault> {
+    let mesh = read_mesh(rt, path)?;
+    match print!(rt; "{mesh}") {
+        Ok(()) => Ok(()),
+        Err(error) => Err(NodeFault::Served(ServeFault::Failed(error))),
+    }
+}
+
+/// The bytes of the file at this path, which nobody but its owner may have, as far as a secret may have them.
+fn secret_bytes<R: Files<File = File>>(
+    rt: &R,
+    alloc: Global,
+    path: &str,
+) -> Result<Vec<u8>, SecretFileFault> {
+    let file = File::open(rt, path)?;
+    if file.metadata()?.mode() & SHARED != 0 {
+        return Err(SecretFileFault::Shared);
+    }
+    let mut bytes = Vec::new(alloc);
+    file.take(MOST_READ).read_to_end(&mut bytes)?;
+    Ok(bytes)
+}
+
+/// The secret of the mesh, where it has one.
+fn secret_of<R: Files<File = File>>(
+    rt: &R,
+    alloc: Global,
+    mesh: &MeshFile,
+) -> Result<Option<Secret>, SecretFileFault> {
+    let Some(path) = mesh.secret_file() else {
+        return Ok(None);
+    };
+    let bytes = secret_bytes(rt, alloc, path)?;
+    match Secret::read(&bytes) {
+        Ok(secret) => Ok(Some(secret)),
+        Err(fault) => Err(SecretFileFault::Bad(fault)),
+    }
+}
+
+/// Tells at the start in which incarnation the server is, and, where the mesh has no secret, that nothing but their addresses tells its peers from
+/// others.
+fn tell_life<R: Print + Eprint>(
+    rt: &R,
+    name: NodeId,
+    inc: Incarnation,
+    has_secret: bool,
+) -> Result<(), ServeFault> {
+    println!(rt; "{} incarnation {}", name.text(), inc.get())?;
+    if has_secret {
+        return Ok(());
+    }
+    eprintln!(rt;
+        "nats_mesh: whoever connects to the routes from a host of the mesh is taken for one of its servers"
+    )?;
+    Ok(())
+}
+
+/// The server of the mesh that the options tell of, in its next incarnation, and the folder that holds that.
+fn next_life<'a, R: Net + Files<File = File> + Print + Eprint + Alloc<A = Global>>(
+    rt: &'a R,
+    alloc: Global,
+    options: &NodeOptions<'_>,
+    mesh: &MeshFile,
+) -> Result<(Plan, FileDisk<'a, R>), NodeFault> {
+    let Some(place) = mesh.place_of(options.name) else {
+        return Err(NodeFault::NotInMesh(options.name));
+    };
+    let secret = secret_of(rt, alloc, mesh)?;
+    let mut disk = FileDisk::open(rt, options.state)?;
+    let inc = raise(alloc, &mut disk, options.name, options.least_inc)?;
+    tell_life(rt, options.name, inc, secret.is_some())?;
+    let plan = plan_at(rt, alloc, mesh, place, inc, secret)?;
+    Ok((plan, disk))
+}
+
+/// Serves one server of the mesh that the options' file describes, and takes part in the mesh as soon as the others are reached.
+///
+/// The file is read first, then that of the secret where there is one, and the server's incarnation is raised in its folder before any socket opens; the folder is this process's
+/// until the end. Then standard output tells the incarnation, and where clients and other servers connect. It ends once the server has
+/// drained, which it is told at the path of the options, by [`ask_drain`](crate::ask_drain). The error is the first cause, in the order of
+/// [`NodeFault`]. May wait, and for ever.
+pub fn serve_node<R>(rt: &R, alloc: Global, options: &NodeOptions<'_>) -> Result<(), NodeFault>
+where
+    R: Threads
+        + Wait
+        + Net<Listener = Listener, Stream = Stream>
+        + RandomSource
+        + Files<File = File>
+        + Clock
+        + Print
+        + Eprint
+        + Alloc<A = Global>
+        + Copy
+        + Send
+        + Sync
+        + 'static,
+{
+    let mesh = read_mesh(rt, options.mesh)?;
+    let (plan, _disk) = next_life(rt, alloc, options, &mesh)?;
+    match serve_plan(rt, alloc, plan, Orders::of_node(options)) {
+        Ok(()) => Ok(()),
+        Err(fault) => Err(NodeFault::Served(fault)),
+    }
 }

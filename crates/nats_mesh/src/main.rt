@@ -12,6 +12,7 @@ use mesh_pipe::{pipe_complaint, pipe_run, pipe_status};
 use mesh_serve::{NodeFault, ask_drain, check_mesh, serve, serve_node};
 use router_command::{Command, Given, NodeGiven, NodeOptions, Options, command_of};
 use std::alloc::Global;
+use std::fmt::Display;
 use std::fs::{File, Files};
 use std::io;
 use std::net::{Net, TcpListener, TcpStream};
@@ -22,6 +23,12 @@ use std::sync::Wait;
 use std::thread::Threads;
 use subj::NodeId;
 use wire_cut::Raw;
+
+/// Tells on standard error what is wrong with the command line, or with a file that it names. Gives the exit status.
+fn refuse<R: Eprint, E: Display>(rt: &R, fault: &E) -> u8 {
+    let _ = eprintln!(rt; "nats_mesh: {fault}");
+    BAD_LINE
+}
 
 /// Serves one client.
 fn run_pipe<R: Input + Print + Eprint + Alloc<A = Global>>(rt: &R) -> u8 {
@@ -53,20 +60,14 @@ where
 {
     match Options::new(given) {
         Ok(options) => report(rt, serve(rt, rt.alloc(), &options)),
-        Err(fault) => {
-            let _ = eprintln!(rt; "nats_mesh: {fault}");
-            BAD_LINE
-        }
+        Err(fault) => refuse(rt, &fault),
     }
 }
 
 /// Tells on standard error why a server of a mesh is not served, or what its file is not. Gives the exit status.
 fn report_node<R: Eprint>(rt: &R, ended: Result<(), NodeFault>) -> u8 {
     match ended {
-        Err(fault) if fault.is_given() => {
-            let _ = eprintln!(rt; "nats_mesh: {fault}");
-            BAD_LINE
-        }
+        Err(fault) if fault.is_given() => refuse(rt, &fault),
         ended => report(rt, ended),
     }
 }
@@ -90,10 +91,7 @@ where
 {
     match NodeOptions::new(given) {
         Ok(options) => report_node(rt, serve_node(rt, rt.alloc(), &options)),
-        Err(fault) => {
-            let _ = eprintln!(rt; "nats_mesh: {fault}");
-            BAD_LINE
-        }
+        Err(fault) => refuse(rt, &fault),
     }
 }
 

@@ -28,15 +28,23 @@ fn list_of(alloc: Global, address: Option<SocketAddr>) -> Result<Vec<SocketAddr>
 
 /// Whether both lists have the same addresses, in any order. No list has one twice.
 fn are_same(some: &[SocketAddr], others: &[SocketAddr]) -> bool {
-    some.len() == others.len() && some.iter().all(|address| others.contains(address))
+    for address in some {
+        if !others.contains(address) {
+            return false;
+        }
+    }
+    some.len() == others.len()
 }
 
 /// Whether one of the addresses is that of this host. One of IPv4 is the same in either form.
 fn is_among(host: IpAddr, addresses: &[SocketAddr]) -> bool {
     let host = host.to_canonical();
-    addresses
-        .iter()
-        .any(|address| address.ip().to_canonical() == host)
+    for address in addresses {
+        if address.ip().to_canonical() == host {
+            return true;
+        }
+    }
+    false
 }
 
 impl PeerHost {

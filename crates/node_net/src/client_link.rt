@@ -376,14 +376,7 @@ impl ClientLink {
         }
     }
 
-    /// Its number at the server.
-    pub fn id(&self) -> ConnId
-        ensures { result ≡ self.now.calls.id }
-    {
-        self.calls.id()
-    }
-
-    /// The same of its shard, which is held.
+    /// Takes all that waits for the client behind what stands there, and has its shard, which is held, forget it.
     pub fn leave_shard<S: ShardCalls>(
         &mut self,
         shard: &mut S,

@@ -42,6 +42,29 @@ pub(crate) enum Link {
     Route(RouteLink),
 }
 
+impl Link {
+    /// Reads at most so many bytes. Where none came, whether that is for want of memory.
+    fn read_from<S: Stream>(&mut self, wire: &mut Wire<S>, part: usize) -> Result<usize, bool> {
+        match self {
+            Link::Client(client) => match client.read_from(wire, part) {
+                Ok(count) => Ok(count),
+                Err(fault) => Err(fault == ReadFault::OutOfMemory),
+            },
+            Link::Route(route) => match route.read_from(wire, part) {
+                Ok(count) => Ok(count),
+                Err(fault) => Err(fault == FillFault::OutOfMemory),
+            },
+        }
+    }
+
+    /// The memory of what was read of a route is given back, where all of it is used up.
+    fn rest(&mut self) {
+        if let Link::Route(route) = self {
+            route.rest();
+        }
+    }
+}
+
 /// Whether a connection goes on.
 #[derive(Clone, Copy, PartialEq, Eq)]
 pub(crate) enum Ending {
@@ -96,7 +119,7 @@ fn closed(client: ConnId, cause: Cause, waiting: usize) -> Event {
 /// A connection.
 #[derive(Drop)]
 pub(crate) struct Connection<S: Stream> {
-    wire: Wire<S>,
+    pub wire: Wire<S>,
     link: Link,
     out: Outgoing,
     ending: Ending,
@@ -105,7 +128,7 @@ pub(crate) struct Connection<S: Stream> {
     /// How many bytes were read and sent since its buffers were given back.
     moved: usize,
     /// When its buffers are given back, in milliseconds since the loop began; never for the greatest number.
-    rests_at: u64,
+    pub rests_at: u64,
     /// Whether there may be more to read.
     has_more: bool,
     /// Whether the other end is known to send nothing any more, so that it is read until its end.
@@ -125,7 +148,7 @@ pub(crate) struct Connection<S: Stream> {
     /// Whether bytes that were sent are lost: it is sent nothing more.
     has_gap: bool,
     /// Whether its stream is to be connected still.
-    awaits_stream: bool,
+    pub awaits_stream: bool,
     /// When it is given up, in milliseconds since the loop began; never for the greatest number.
     deadline: u64,
     /// Whether its stream took a byte of what waited, since it was last watched.
@@ -167,16 +190,20 @@ impl<S: Stream> Connection<S> {
         }
     }
 
-    /// Its stream.
-    pub fn stream(&self) -> &S
-        ensures { result.now ≡ self.now.wire.stream }
-    {
-        self.wire.stream()
-    }
-
-    /// Its stream, to be changed.
-    pub fn stream_mut(&mut self) -> &mut S {
-        self.wire.stream_mut()
+    /// A connection that is sent this first. A route is to tell who it is by this time.
+    pub fn greeted(
+        alloc: Global,
+        stream: S,
+        link: Link,
+        deadline: u64,
+        greeting: &[u8],
+    ) -> Connection<S> {
+        let mut connection = Connection::new(alloc, stream, link);
+        if connection.is_unknown() {
+            connection.limit(deadline);
+        }
+        connection.send(greeting);
+        connection
     }
 
     /// Its stream, of which nothing more is asked.
@@ -194,14 +221,8 @@ impl<S: Stream> Connection<S> {
         wire.into_stream()
     }
 
-    /// Reads once, unless what was read before waits for memory. Whether memory is wanting now, and was not before.
-    pub fn read(&mut self) -> bool {
-        let was_short = self.is_short;
-        self.read_once();
-        self.is_short && !was_short
-    }
-
-    fn read_once(&mut self) {
+    /// Reads once, unless what was read before waits for memory.
+    pub fn read(&mut self) {
         if self.ending != Ending::Open {
             return;
         }
@@ -210,14 +231,15 @@ impl<S: Stream> Connection<S> {
             return;
         }
         let part = self.part;
-        match self.read_part(part) {
-            Some(count) => {
+        match self.link.read_from(&mut self.wire, part) {
+            Ok(count) => {
                 self.has_more = count == part || self.hangs_up;
                 self.part = next_part(part, count);
                 self.moved = self.moved.saturating_add(count);
             }
-            None => {
-                self.has_more = self.is_short;
+            Err(is_short) => {
+                self.is_short = is_short;
+                self.has_more = is_short;
                 self.hangs_up = false;
             }
         }
@@ -235,47 +257,16 @@ impl<S: Stream> Connection<S> {
         }
     }
 
-    /// When its buffers are given back, in milliseconds since the loop began; never for the greatest number.
-    pub fn rests_at(&self) -> u64 {
-        self.rests_at
-    }
-
     /// Its buffers are given back where the time has come, a client's once it is served. Whether they were.
     pub fn rest_if_idle(&mut self, now: u64) -> bool {
         if self.rests_at > now {
             return false;
         }
-        self.rest();
-        true
-    }
-
-    fn rest(&mut self) {
         self.part = FIRST_READ;
         self.moved = 0;
         self.rests_at = u64::MAX;
-        if let Link::Route(route) = &mut self.link {
-            route.rest();
-        }
-    }
-
-    /// Reads at most so many bytes; None where none came.
-    fn read_part(&mut self, part: usize) -> Option<usize> {
-        match &mut self.link {
-            Link::Client(client) => match client.read_from(&mut self.wire, part) {
-                Ok(count) => Some(count),
-                Err(fault) => {
-                    self.is_short = fault == ReadFault::OutOfMemory;
-                    None
-                }
-            },
-            Link::Route(route) => match route.read_from(&mut self.wire, part) {
-                Ok(count) => Some(count),
-                Err(fault) => {
-                    self.is_short = fault == FillFault::OutOfMemory;
-                    None
-                }
-            },
-        }
+        self.link.rest();
+        true
     }
 
     /// Does what was read asks next, where it goes on.
@@ -307,14 +298,6 @@ impl<S: Stream> Connection<S> {
         })
     }
 
-    /// The route at its other end, where that is one.
-    fn route(&self) -> Option<&RouteLink> {
-        match &self.link {
-            Link::Client(_) => None,
-            Link::Route(route) => Some(route),
-        }
-    }
-
     /// Whether it is a route whose handshake is not over.
     pub fn is_proving(&self) -> bool
         ensures { result ≡ proving self.now.link }
@@ -327,9 +310,9 @@ impl<S: Stream> Connection<S> {
 
     /// Whether it is one that another server has dialed, or who would be one, which is to prove still which one it is.
     pub fn is_of_stranger(&self) -> bool {
-        match self.route() {
-            None => false,
-            Some(route) => route.is_of_stranger(),
+        match &self.link {
+            Link::Client(_) => false,
+            Link::Route(route) => route.is_of_stranger(),
         }
     }
 
@@ -375,13 +358,6 @@ impl<S: Stream> Connection<S> {
             return Ending::Gone;
         }
         self.ending
-    }
-
-    /// Whether its stream has failed.
-    pub fn has_failed(&self) -> bool
-        ensures { result ≡ self.now.wire.has_failed }
-    {
-        self.wire.has_failed()
     }
 
     /// Where its other end sends nothing any more, a route is closed, and a client is given up at this time, or earlier where it would have been.
@@ -466,21 +442,13 @@ impl<S: Stream> Connection<S> {
     /// A route whose session is kept is given up at this time, counted from when its stream took a byte, where something waits for it.
     pub fn watch(&mut self, deadline: u64) {
         let has_moved = std::mem::replace(&mut self.has_moved, false);
-        if !self.is_kept() {
+        if self.peer().is_none() {
             return;
         }
         if self.is_flushed() {
             self.deadline = u64::MAX;
         } else if has_moved || self.deadline == u64::MAX {
             self.deadline = deadline;
-        }
-    }
-
-    /// Whether it is a route whose session is kept.
-    fn is_kept(&self) -> bool {
-        match &self.link {
-            Link::Client(_) => false,
-            Link::Route(route) => route.is_kept(),
         }
     }
 
@@ -565,16 +533,11 @@ impl<S: Stream> Connection<S> {
         }
     }
 
-    /// Whether it is a route whose other end could tell who it is, and has not.
-    pub fn is_silent(&self) -> bool {
-        self.is_unknown() && !self.awaits_stream
-    }
-
     /// What is told of its other end, which has dialed, or would be another server, and is refused for this cause.
     pub fn refused(&self, cause: RefusalCause) -> Event {
-        let from = match self.route() {
-            None => None,
-            Some(route) => route.came_from(),
+        let from = match &self.link {
+            Link::Client(_) => None,
+            Link::Route(route) => route.came_from(),
         };
         Event::ConnectionRefused {
             caller: Caller::Server { from },
@@ -586,7 +549,7 @@ impl<S: Stream> Connection<S> {
     pub fn is_unknown(&self) -> bool {
         match &self.link {
             Link::Client(_) => false,
-            Link::Route(route) => !route.is_kept(),
+            Link::Route(route) => route.kept_with().is_none(),
         }
     }
 
@@ -620,7 +583,7 @@ impl<S: Stream> Connection<S> {
     /// The client at the other end, where there is one.
     pub fn client(&self) -> Option<ConnId> {
         match &self.link {
-            Link::Client(client) => Some(client.id()),
+            Link::Client(client) => Some(client.calls.id()),
             Link::Route(_) => None,
         }
     }
@@ -630,7 +593,7 @@ impl<S: Stream> Connection<S> {
         ensures { result ≡ client_in shard self.now.link }
     {
         match &self.link {
-            Link::Client(client) if client.shard == shard => Some(client.id()),
+            Link::Client(client) if client.shard == shard => Some(client.calls.id()),
             _ => None,
         }
     }
@@ -665,7 +628,7 @@ impl<S: Stream> Connection<S> {
         let Some(client) = self.client_of(shard.shard()) else {
             return Ok(());
         };
-        if !self.is_flushed() || self.has_failed() {
+        if !self.is_flushed() || self.wire.has_failed() {
             return Ok(());
         }
         match shard.take_bytes(client, usize::MAX, lent) {

@@ -25,17 +25,17 @@ pub(crate) struct Connections<S: Stream> {
     /// Whether something may wait for other servers.
     pub has_told: bool,
     /// Connections that are to be served in the next turn, although nothing tells of them, and those of this turn.
-    again: Vec<usize>,
+    pub again: Vec<usize>,
     pub serving: Vec<usize>,
     /// Connections that go at the end of the turn, and those that are going.
-    leaving: Vec<usize>,
+    pub leaving: Vec<usize>,
     pub going: Vec<usize>,
     /// Milliseconds since the loop began.
     pub now: u64,
     /// No connection's deadline comes before this time; the greatest number where none comes.
     next_deadline: u64,
     /// How many turns were made.
-    turns: u64,
+    pub turns: u64,
     /// Whether there was no memory for something, which is tried again.
     pub is_short: bool,
     /// Whether clients are closed once nothing waits for them.
@@ -51,6 +51,12 @@ pub(crate) struct Connections<S: Stream> {
 /// Puts a key behind the others. Whether there was memory for it.
 fn keep(keys: &mut Vec<usize>, key: usize) -> bool {
     keys.push(key).is_ok()
+}
+
+/// The keys that were noted are seen to now, and the list of those that were is there for others. Gives how many there are.
+pub(crate) fn swapped(noted: &mut Vec<usize>, now: &mut Vec<usize>) -> usize {
+    std::mem::swap(noted, now);
+    now.len()
 }
 
 /// Puts a value among others. Gives its key.
@@ -133,22 +139,6 @@ impl<S: Stream> Connections<S> {
         (self.next_deadline < u64::MAX).then_some(self.next_deadline)
     }
 
-    /// A turn begins. Gives how many connections are to be served again.
-    pub fn begin_turn(&mut self) -> usize {
-        self.turns = self.turns.wrapping_add(1);
-        std::mem::swap(&mut self.again, &mut self.serving);
-        self.serving.len()
-    }
-
-    /// The connection at this place among those that are to be served again.
-    pub fn served_again(&mut self, place: usize) -> Option<usize> {
-        let key = self.serving.get(place).copied()?;
-        if let Some(connection) = self.table.get_mut(key) {
-            connection.stands_again = false;
-        }
-        Some(key)
-    }
-
     /// Reads of a connection once, and once a turn. Whether it did.
     pub fn read(&mut self, key: usize) -> bool {
         let Some(connection) = self.table.get_mut(key) else {
@@ -158,7 +148,10 @@ impl<S: Stream> Connections<S> {
             return false;
         }
         connection.served_in = self.turns;
-        self.is_short |= connection.read();
+        connection.stands_again = false;
+        let was_short = connection.is_short;
+        connection.read();
+        self.is_short |= connection.is_short && !was_short;
         self.rest_later(key);
         true
     }
@@ -182,20 +175,6 @@ impl<S: Stream> Connections<S> {
         if !keep(&mut self.awaited, key) {
             self.awaits_any = true;
         }
-    }
-
-    /// Where the other end of a connection sends nothing any more, a route is closed, and a client has at most [`LAST_BYTES`] from now. Whether it is
-    /// a client that goes on.
-    pub fn end(&mut self, key: usize) -> bool {
-        let deadline = last_bytes(self.now);
-        let is_client = match self.table.get_mut(key) {
-            None => false,
-            Some(connection) => connection.end(deadline),
-        };
-        if is_client {
-            self.await_deadline(key);
-        }
-        is_client
     }
 
     /// Notes what is to become of a connection that was served.
@@ -291,12 +270,6 @@ impl<S: Stream> Connections<S> {
         }
     }
 
-    /// The connections go that are to be closed. Gives how many there are.
-    pub fn begin_closing(&mut self) -> usize {
-        std::mem::swap(&mut self.leaving, &mut self.going);
-        self.going.len()
-    }
-
     /// The connection at this place among those that go, where it goes still.
     pub fn going(&mut self, place: usize) -> Option<usize> {
         let key = self.going.get(place).copied()?;
@@ -310,7 +283,7 @@ impl<S: Stream> Connections<S> {
         ensures { self.new.table ≡ self.old.table }
     {
         if let Some(connection) = self.table.get(key) {
-            let next = connection.deadline().min(connection.rests_at());
+            let next = connection.deadline().min(connection.rests_at);
             self.next_deadline = self.next_deadline.min(next);
         }
     }
@@ -333,14 +306,8 @@ impl<S: Stream> Connections<S> {
         self.leave_if_gone(key);
     }
 
-    /// A route for which something waits has [`ROUTE_STALL`] from when its stream took a byte of it.
-    pub fn watch_route(&mut self, key: usize) {
-        self.watch(key);
-        self.await_deadline(key);
-    }
-
-    /// The same, where the deadline is awaited later.
-    fn watch(&mut self, key: usize) {
+    /// A route for which something waits has [`ROUTE_STALL`] from when its stream took a byte of it. That deadline is awaited later.
+    pub fn watch(&mut self, key: usize) {
         let deadline = self.now.saturating_add(ROUTE_STALL);
         if let Some(connection) = self.table.get_mut(key) {
             connection.watch(deadline);
@@ -393,17 +360,13 @@ impl<S: Stream> Connections<S> {
         self.write_kept(key);
         self.watch(key);
         if self.is_overdue(key) {
-            self.tell_silent(key);
-            self.give_up_for(key, Cause::Overdue);
-        }
-    }
-
-    /// The other end of a route did not tell in time who it is, although it could.
-    fn tell_silent(&mut self, key: usize) {
-        if let Some(connection) = self.table.get(key) {
-            if connection.is_silent() {
-                self.events.note(connection.refused(RefusalCause::Silent));
+            if let Some(connection) = self.table.get(key) {
+                // it is a route whose other end could tell who it is, and has not
+                if connection.is_unknown() && !connection.awaits_stream {
+                    self.events.note(connection.refused(RefusalCause::Silent));
+                }
             }
+            self.give_up_for(key, Cause::Overdue);
         }
     }
 

@@ -53,11 +53,6 @@ impl Drain {
         }
     }
 
-    /// Whether it was asked for, and there is more to do.
-    pub fn goes_on(&self) -> bool {
-        self.stage != Stage::Serves && self.stage != Stage::Done
-    }
-
     /// When it goes on although no stream is ready; never for the greatest number.
     pub fn next(&self) -> u64 {
         match self.stage {
@@ -107,14 +102,16 @@ impl<S: Stream, C: ServerCalls> Server<S, C> {
 
     /// Goes on with a drain, once all that came in this turn was worked and written.
     pub(crate) fn drain_on<R: Wait>(&mut self, rt: &R) {
-        if !self.drain.goes_on() {
-            return;
-        }
         match self.drain.stage {
-            Stage::Serves | Stage::Done => {}
+            Stage::Serves | Stage::Done => return,
             Stage::Tells => self.tell_drain(rt),
-            Stage::Pauses => self.end_pause(),
-            Stage::Closes => {}
+            Stage::Pauses if self.connections.now >= self.drain.closes_at => {
+                // from now on, clients are closed once nothing waits for them: each is looked at, and later each that was served or written to
+                self.drain.stage = Stage::Closes;
+                self.connections.drains = true;
+                self.connections.looks_at_all = true;
+            }
+            Stage::Pauses | Stage::Closes => {}
         }
         if self.drain.stage == Stage::Closes {
             self.close_quiet(rt);
@@ -136,16 +133,6 @@ impl<S: Stream, C: ServerCalls> Server<S, C> {
                 self.drain.stage = Stage::Pauses;
                 self.drain.closes_at = self.connections.now.saturating_add(DRAIN_PAUSE);
             }
-        }
-    }
-
-    /// The pause is over once its time has come. From then on, clients are closed once nothing waits for them: each is looked at, and later each that
-    /// was served or written to.
-    fn end_pause(&mut self) {
-        if self.connections.now >= self.drain.closes_at {
-            self.drain.stage = Stage::Closes;
-            self.connections.drains = true;
-            self.connections.looks_at_all = true;
         }
     }
 

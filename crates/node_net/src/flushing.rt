@@ -15,7 +15,7 @@ use crate::clients::Clients;
 use crate::connection::{Cause, Ending};
 use crate::connections::{Connections, last_bytes};
 use crate::holds::{swap_dirty_conns, take_frames};
-use crate::limits::{FRAMES, PEER_BACKLOG, TAKEN_AT_ONCE};
+use crate::limits::{BUSY_BYTES, FRAMES, PEER_BACKLOG, TAKEN_AT_ONCE};
 use crate::parts::{Parts, let_go_beyond};
 use crate::server::Server;
 use crate::taken::Taken;
@@ -376,7 +376,7 @@ impl<S: Stream, C: ServerCalls> Server<S, C> {
             .connections
             .take_some(rt, self.node, number, awaited, place, &mut self.taken);
         self.connections.write_parts(&self.taken);
-        self.taken.let_go();
+        self.taken.let_go_beyond(BUSY_BYTES);
         self.connections.go_on(came, awaited.count())
     }
 
@@ -389,7 +389,8 @@ impl<S: Stream, C: ServerCalls> Server<S, C> {
         for peer in 0..self.peers.count() {
             if let Some(key) = self.peers.kept_connection(peer) {
                 self.write_to_peer(rt, peer, key);
-                self.connections.watch_route(key);
+                self.connections.watch(key);
+                self.connections.await_deadline(key);
             }
         }
     }

@@ -1,6 +1,7 @@
-//! What a route begins with where the mesh has a secret: both ends prove that they have it.
+//! What a route begins with: who is at its ends. Where the mesh has a secret, both prove first that they have it.
 
 use peer_proof::{Acceptor, Answer, Dialer, Heard, Hello, Mac, ProofFault, Secret};
+use route_frames::{RouteConnect, RouteFrame, RouteInfo, encode};
 use server_events::RefusalCause;
 use std::alloc::AllocError;
 use subj::{NodeId, ServerIdentity as Life};
@@ -29,12 +30,24 @@ pub(crate) enum Proving {
     Refuses(RefusalCause),
 }
 
-/// What this end of a handshake says.
+/// What this end of a route says before its session is kept.
 #[derive(Clone, Copy)]
 pub(crate) enum Said {
     Hello(Hello),
     Answer(Answer),
     Proof(Mac),
+    Info(RouteInfo),
+    Connect(RouteConnect),
+}
+
+/// Encodes what a server that has dialed is told first.
+fn encode_info(info: RouteInfo, encoded: &mut Vec<u8>) -> Result<(), AllocError> {
+    encode(&RouteFrame::Info(info), encoded)
+}
+
+/// Encodes what a server that was dialed is told back.
+fn encode_connect(connect: RouteConnect, encoded: &mut Vec<u8>) -> Result<(), AllocError> {
+    encode(&RouteFrame::Connect(connect), encoded)
 }
 
 impl Said {
@@ -44,6 +57,8 @@ impl Said {
             Said::Hello(hello) => hello.write(encoded),
             Said::Answer(answer) => answer.write(encoded),
             Said::Proof(mac) => mac.write(encoded),
+            Said::Info(info) => encode_info(*info, encoded),
+            Said::Connect(connect) => encode_connect(*connect, encoded),
         }
     }
 }
@@ -66,15 +81,13 @@ fn proved(life: &Life, name: NodeId) -> Proving {
     }
 }
 
-/// The dialer is told this, and is to prove itself still.
-fn answered(next: Acceptor, answer: Answer) -> Proving {
-    Proving::Answers { next, answer }
-}
-
 /// What a line comes to that is not refused.
 fn taken(life: &Life, heard: &Heard) -> Proving {
     match heard {
-        Heard::Hello { next, answer } => answered(*next, *answer),
+        Heard::Hello { next, answer } => Proving::Answers {
+            next: *next,
+            answer: *answer,
+        },
         Heard::Proved(name) => proved(life, *name),
     }
 }
@@ -88,14 +101,6 @@ fn heard_by(acceptor: &Acceptor, secret: &Secret, life: &Life, line: &[u8]) -> P
 }
 
 impl Handshake {
-    /// Whether somebody else has dialed.
-    pub fn is_of_stranger(&self) -> bool {
-        match self {
-            Handshake::Dialer(_) => false,
-            Handshake::Acceptor(_) => true,
-        }
-    }
-
     /// What this server makes of the other end's next line.
     pub fn hear(&self, secret: &Secret, life: &Life, line: &[u8]) -> Proving {
         match self {

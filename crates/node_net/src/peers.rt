@@ -54,41 +54,21 @@ impl Peers {
         self.links.get(place)?.kept
     }
 
-    /// The place of the server whose session with this connection is kept.
-    pub fn place_of(&self, key: usize) -> Option<usize> {
-        for (place, link) in self.links.iter().enumerate() {
-            if is_at(link.kept, key) {
-                return Some(place);
-            }
-        }
-        None
-    }
-
-    /// The place of the server that this connection dials.
-    fn dialed_place(&self, key: usize) -> Option<usize> {
-        for (place, link) in self.links.iter().enumerate() {
-            if is_at(link.dialed, key) {
-                return Some(place);
-            }
-        }
-        None
-    }
-
     /// The name of the server that this connection dials.
     pub fn dialed_name(&self, key: usize, life: &Life) -> Option<NodeId> {
-        name_at(life, self.dialed_place(key)?)
+        for (place, link) in self.links.iter().enumerate() {
+            if is_at(link.dialed, key) {
+                return name_at(life, place);
+            }
+        }
+        None
     }
 
     /// Whether another server stands at this place that is not reached and is not being dialed.
     pub fn is_missing(&self, life: &Life, place: usize) -> bool {
-        life.is_peer(place) && !self.is_reached(place)
-    }
-
-    /// Whether the server at this place is reached, or is being dialed.
-    fn is_reached(&self, place: usize) -> bool {
         match self.links.get(place) {
             None => false,
-            Some(link) => link.kept.is_some() || link.dialed.is_some(),
+            Some(link) => life.is_peer(place) && link.kept.is_none() && link.dialed.is_none(),
         }
     }
 
@@ -114,16 +94,19 @@ impl Peers {
         }
     }
 
-    /// The connection is gone.
-    pub fn lose(&mut self, key: usize) {
-        for link in &mut self.links {
+    /// The connection is gone. The place of the server whose session with it was kept.
+    pub fn lose(&mut self, key: usize) -> Option<usize> {
+        let mut lost = None;
+        for (place, link) in self.links.iter_mut().enumerate() {
             if is_at(link.kept, key) {
                 link.kept = None;
+                lost = Some(place);
             }
             if is_at(link.dialed, key) {
                 link.dialed = None;
             }
         }
+        lost
     }
 }
 
@@ -167,14 +150,6 @@ impl Redials {
             })?;
         }
         Ok(())
-    }
-
-    /// Whether the server at this place may be dialed now.
-    pub fn is_due(&self, place: usize, now: u64) -> bool {
-        match self.redials.get(place) {
-            None => false,
-            Some(redial) => redial.at <= now,
-        }
     }
 
     /// When the server at this place may be dialed.

@@ -9,7 +9,7 @@ use crate::holds::accept;
 use crate::limits::{GREETING, STRANGER_STAY, STRANGERS};
 use crate::peers::name_at;
 use crate::route_link::{RouteLink, Stage};
-use crate::server::{Server, encode_info};
+use crate::server::Server;
 use arrayvec::ArrayVec;
 use net_streams::Stream;
 use peer_proof::{Acceptor, Dialer, FreshWord, Secret, WORD};
@@ -18,8 +18,9 @@ use server_calls::ServerCalls;
 use server_events::{Event, RefusalCause};
 use std::alloc::Global;
 use std::net::SocketAddr;
+use std::random::RandomSource;
 use std::sync::Wait;
-use subj::Failure;
+use subj::{Failure, ServerIdentity as Life};
 
 /// What a server knows its peers by, where the mesh has a secret.
 #[derive(Drop)]
@@ -72,12 +73,49 @@ impl Guard {
         self.strangers.retain(|stranger| *stranger != key);
     }
 
+    /// Draws the word for the next connection at random. There is none where the system gives none.
+    pub fn draw_word<R: RandomSource>(&mut self, rt: &R) {
+        let mut word = [0; WORD];
+        if rt.fill_bytes(&mut word).is_ok() {
+            self.word = Some(FreshWord(word));
+        }
+    }
+
     /// The word for a connection. No other one gets it.
     fn take_word(&mut self) -> Result<FreshWord, AddFault> {
         match self.word.take() {
             Some(word) => Ok(word),
             None => Err(AddFault::NoWord),
         }
+    }
+
+    /// A route of which nothing was read, to somebody who has dialed and is to prove which server it is.
+    pub fn stranger(&mut self, alloc: Global, from: Option<SocketAddr>) -> Result<Link, AddFault> {
+        let handshake = Handshake::Acceptor(Acceptor::AwaitsHello(self.take_word()?));
+        let proof = boxed(alloc, handshake)?;
+        let stage = Stage::Accepted { from, proved: None };
+        Ok(Link::Route(RouteLink::new(alloc, None, stage, Some(proof))))
+    }
+
+    /// This end of the handshake with the server at this place, which is dialed and is told what is encoded; none where the mesh has no secret.
+    pub fn greeting(
+        &mut self,
+        alloc: Global,
+        life: &Life,
+        peer: usize,
+        encoded: &mut Vec<u8>,
+    ) -> Result<Option<Box<Handshake>>, AddFault> {
+        if self.secret.is_none() {
+            return Ok(None);
+        }
+        let Some(peer) = name_at(life, peer) else {
+            return Err(AddFault::NoWord);
+        };
+        let word = self.take_word()?;
+        let me = life.name();
+        let dialer = Dialer { me, peer, word };
+        Said::Hello(dialer.hello()).encode(encoded)?;
+        Ok(Some(boxed(alloc, Handshake::Dialer(dialer))?))
     }
 }
 
@@ -119,34 +157,8 @@ impl<S: Stream, C: ServerCalls> Server<S, C> {
         self.has_secret() && self.guard.word.is_none()
     }
 
-    /// A route of which nothing was read, to somebody who has dialed and is to prove which server it is, where there is a place for one.
-    pub(crate) fn stranger(&mut self, from: Option<SocketAddr>) -> Result<Link, AddFault> {
-        if !self.has_place() {
-            return Err(AddFault::TooManyStrangers);
-        }
-        let word = self.guard.take_word()?;
-        let handshake = Handshake::Acceptor(Acceptor::AwaitsHello(word));
-        let proof = boxed(self.alloc, handshake)?;
-        let stage = Stage::Accepted { from, proved: None };
-        Ok(Link::Route(RouteLink::new(self.alloc, None, stage, Some(proof))))
-    }
-
-    /// This end of the handshake with the server at this place, which is dialed and is told what is encoded.
-    pub(crate) fn greeting(&mut self, peer: usize) -> Result<Box<Handshake>, AddFault> {
-        let Some(name) = name_at(&self.life, peer) else {
-            return Err(AddFault::NoWord);
-        };
-        let dialer = Dialer {
-            me: self.life.name(),
-            peer: name,
-            word: self.guard.take_word()?,
-        };
-        Said::Hello(dialer.hello()).encode(&mut self.encoded)?;
-        boxed(self.alloc, Handshake::Dialer(dialer))
-    }
-
     /// Whether there is a place for one stranger more: a free one, or that of the one that came first, where it came [`STRANGER_STAY`] ago or earlier.
-    fn has_place(&self) -> bool {
+    pub(crate) fn has_place(&self) -> bool {
         let Some(first) = self.guard.first_of_all() else {
             return true;
         };
@@ -187,8 +199,8 @@ impl<S: Stream, C: ServerCalls> Server<S, C> {
         }
     }
 
-    /// Tells the other end of a route a line of the handshake.
-    fn say(&mut self, key: usize, said: Said) {
+    /// Tells the other end of a route what its session begins with.
+    pub(crate) fn say(&mut self, key: usize, said: Said) {
         self.encoded.clear();
         let is_whole = said.encode(&mut self.encoded).is_ok();
         self.connections.send_encoded(key, &self.encoded, is_whole);
@@ -202,9 +214,7 @@ impl<S: Stream, C: ServerCalls> Server<S, C> {
                 if let Some(connection) = self.connections.table.get_mut(key) {
                     connection.admit(place, session);
                 }
-                self.encoded.clear();
-                let is_whole = encode_info(info, &mut self.encoded).is_ok();
-                self.connections.send_encoded(key, &self.encoded, is_whole);
+                self.say(key, Said::Info(info));
             }
             Err(fault) => self.refuse(key, refusal_of(fault)),
         }

@@ -238,7 +238,7 @@ impl RouteLink {
     pub fn is_of_stranger(&self) -> bool {
         match &self.proof {
             None => false,
-            Some(handshake) => handshake.is_of_stranger(),
+            Some(handshake) => matches!(**handshake, Handshake::Acceptor(_)),
         }
     }
 
@@ -269,17 +269,12 @@ impl RouteLink {
     /// Goes on with its handshake by the next line, where it is whole: what that comes to.
     pub fn hear(&mut self, secret: &Secret, life: &Life) -> Proving {
         let proving = self.heard(secret, life);
-        self.go_on(&proving);
-        proving
-    }
-
-    /// What is awaited behind a line that comes to this.
-    fn go_on(&mut self, proving: &Proving) {
-        match proving {
+        match &proving {
             Proving::Answers { next, .. } => self.await_proof(*next),
             Proving::Reached(_) | Proving::Admits(_) => self.end_proof(),
             Proving::Waits | Proving::Refuses(_) => {}
         }
+        proving
     }
 
     /// The dialer is to prove itself next.
@@ -327,11 +322,6 @@ impl RouteLink {
             None => {}
             Some(session) => cut(rt, node, session),
         }
-    }
-
-    /// Whether its session is kept.
-    pub fn is_kept(&self) -> bool {
-        matches!(self.stage, Stage::Kept { .. })
     }
 
     /// The place of the server that its session is kept with.

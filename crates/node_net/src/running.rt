@@ -5,16 +5,15 @@ use crate::connection::Cause;
 use crate::control::{CONTROL, CONTROL_LINK, Control};
 use crate::faults::AddFault;
 use crate::limits::{ACCEPTS, ASKED_EVERY, EVENTS, RETRY, UNANSWERED};
-use crate::peers::Redials;
+use crate::peers::{Peers, Redials};
 use crate::server::{Server, Side};
 use crate::shutdown::Shutdown;
 use mio::event::Event as Ready;
 use mio::net::{TcpListener, TcpStream};
 use mio::{Events, Interest, Poll, Token};
 use net_streams::end_unanswered;
-use peer_proof::WORD;
 use server_calls::ServerCalls;
-use server_events::{Caller, Event, EventSink, RefusalCause, SystemCause};
+use server_events::{Caller, Event, EventSink, Events as ServerEvents, RefusalCause, SystemCause};
 use std::alloc::{AllocError, Global};
 use std::io;
 use std::net::{Net, SocketAddr};
@@ -22,7 +21,7 @@ use std::random::RandomSource;
 use std::rt::Clock;
 use std::sync::Wait;
 use std::time::{Duration, Instant};
-use subj::NodeId;
+use subj::{NodeId, ServerIdentity as Life};
 
 /// The token of the socket where clients connect.
 const CLIENTS: Token = Token(usize::MAX);
@@ -163,6 +162,21 @@ fn register(sockets: &mut Sockets) -> io::Result<()> {
     }
 }
 
+/// A stream to this address, where one is known and the system begins to connect to it.
+fn connect<R: Net>(rt: &R, address: Option<SocketAddr>) -> Option<TcpStream> {
+    TcpStream::connect(rt, address?).ok()
+}
+
+/// Has the system tell when the stream of a connection is ready; whether it does. It is also to end a route whose other end answers nothing any
+/// more: a system that does not leaves a route as it was, and a lost server is noticed later.
+fn watch(poll: &Poll, stream: &mut TcpStream, key: usize, side: Side) -> bool {
+    if !is_client(side) {
+        let _ = end_unanswered(&*stream, UNANSWERED, ASKED_EVERY);
+    }
+    let both = Interest::READABLE | Interest::WRITABLE;
+    poll.registry().register(stream, Token(key), both).is_ok()
+}
+
 impl Rounds {
     fn new(alloc: Global, start: Instant, sockets: Sockets) -> Rounds {
         let Sockets {
@@ -187,12 +201,6 @@ impl Rounds {
         }
     }
 
-    /// Makes room for what is ready in a turn, and for so many servers, which may all be dialed at once.
-    fn reserve(&mut self, count: usize) -> Result<(), AllocError> {
-        self.ready.reserve(EVENTS)?;
-        self.redials.start(count)
-    }
-
     /// Milliseconds since the start.
     fn time<R: Clock>(&self, rt: &R) -> io::Result<u64> {
         let passed = self.start.elapsed(rt)?.as_millis();
@@ -211,6 +219,32 @@ impl Rounds {
         (self.clients.has_more || self.routes.has_more) && !self.has_failed
     }
 
+    /// How long to wait for a socket now, where the next turn of this server is due then; None is for ever.
+    fn patience(
+        &self,
+        now: u64,
+        next_turn: Option<u64>,
+        peers: &Peers,
+        life: &Life,
+    ) -> Option<Duration> {
+        if self.may_accept() {
+            return Some(Duration::from_millis(0));
+        }
+        let mut until = next_turn.unwrap_or(u64::MAX);
+        for place in 0..peers.count() {
+            if peers.is_missing(life, place) {
+                until = until.min(self.redials.due(place));
+            }
+        }
+        if self.has_failed {
+            until = until.min(now.saturating_add(RETRY));
+        }
+        if until == u64::MAX {
+            return None;
+        }
+        Some(Duration::from_millis(until.saturating_sub(now)))
+    }
+
     /// Does what operators say who have come. The servers have these names, in their order.
     fn hear_operators(&mut self, names: &[NodeId], shutdown: &Shutdown) {
         if !std::mem::replace(&mut self.is_controlled, false) {
@@ -221,12 +255,18 @@ impl Rounds {
         }
     }
 
-    /// A connection is ready.
-    fn note(&mut self, key: usize) -> Result<(), AllocError> {
-        match self.ready.push(key) {
-            Ok(()) => Ok(()),
-            Err(_) => Err(AllocError),
+    /// Notes what this token stands for, where that is no connection. Whether it is one.
+    fn is_of_connection(&mut self, token: Token) -> bool {
+        if token == CLIENTS {
+            self.clients.has_more = true;
+        } else if token == ROUTES {
+            self.routes.has_more = true;
+        } else if token == CONTROL || token == CONTROL_LINK {
+            self.is_controlled = true;
+        } else {
+            return token != WAKER;
         }
+        false
     }
 }
 
@@ -236,6 +276,13 @@ fn caller_of(side: Side) -> Option<Caller> {
         Side::Client => Some(Caller::Client),
         Side::Accepted(from) => Some(Caller::Server { from }),
         Side::Dialed(_) => None,
+    }
+}
+
+/// Notes that a connection was not taken for this cause.
+fn note_refused(events: &mut ServerEvents, side: Side, cause: RefusalCause) {
+    if let Some(caller) = caller_of(side) {
+        events.note(Event::ConnectionRefused { caller, cause });
     }
 }
 
@@ -282,12 +329,13 @@ impl<C: ServerCalls> Server<TcpStream, C> {
         mesh: Mesh<'_>,
         log: &L,
     ) -> io::Result<()> {
-        rounds.reserve(mesh.addresses.count())?;
+        rounds.ready.reserve(EVENTS)?;
+        rounds.redials.start(mesh.addresses.count())?;
         let mut events = Events::with_capacity(self.alloc, EVENTS)?;
         self.go_round(rt, rounds, &mut events, mesh, log)
     }
 
-    /// Goes round, until all servers of the process stop.
+    /// Goes round, until all servers of the process stop: takes clients and routes, dials, and makes a turn for the connections that are ready.
     fn go_round<R: Wait + Net + Clock + RandomSource, L: EventSink>(
         &mut self,
         rt: &R,
@@ -300,7 +348,12 @@ impl<C: ServerCalls> Server<TcpStream, C> {
             if mesh.shutdown.is_over() {
                 return Ok(());
             }
-            self.go_once(rt, rounds, mesh);
+            rounds.hear_operators(self.life.names(), mesh.shutdown);
+            self.hear_drain(rounds, mesh.shutdown);
+            self.accept_all(rt, rounds, mesh);
+            self.dial_all(rt, rounds, mesh.addresses);
+            self.turn(rt, &rounds.ready);
+            rounds.ready.clear();
             self.tell(rt, rounds, mesh.shutdown, log);
             if mesh.shutdown.is_over() {
                 return Ok(());
@@ -308,21 +361,6 @@ impl<C: ServerCalls> Server<TcpStream, C> {
             self.wait(rt, rounds, events)?;
         }
         Ok(())
-    }
-
-    /// Takes clients and routes, dials, and makes a turn for the connections that are ready.
-    fn go_once<R: Wait + Net + Clock + RandomSource>(
-        &mut self,
-        rt: &R,
-        rounds: &mut Rounds,
-        mesh: Mesh<'_>,
-    ) {
-        rounds.hear_operators(self.life.names(), mesh.shutdown);
-        self.hear_drain(rounds, mesh.shutdown);
-        self.accept_all(rt, rounds, mesh);
-        self.dial_all(rt, rounds, mesh.addresses);
-        self.turn(rt, &rounds.ready);
-        rounds.ready.clear();
     }
 
     /// Begins a drain where the server was asked for one, and takes no more clients; a further ask ends it.
@@ -366,11 +404,15 @@ impl<C: ServerCalls> Server<TcpStream, C> {
         events: &mut Events,
     ) -> io::Result<()> {
         self.set_time(rounds.time(rt)?);
-        let patience = self.patience(rounds);
+        let next_turn = self.next_turn();
+        let now = self.connections.now;
+        let patience = rounds.patience(now, next_turn, &self.peers, &self.life);
         rounds.poll.poll(events, patience)?;
         self.set_time(rounds.time(rt)?);
         for event in &*events {
-            self.note_event(event, rounds)?;
+            if rounds.is_of_connection(event.token()) {
+                self.note_ready(event, rounds)?;
+            }
         }
         Ok(())
     }
@@ -409,25 +451,20 @@ impl<C: ServerCalls> Server<TcpStream, C> {
                         mesh.shutdown.take();
                     }
                 }
-                Accepted::Stranger(side) => self.tell_refused(side, RefusalCause::Stranger),
+                Accepted::Stranger(side) => {
+                    note_refused(&mut self.connections.events, side, RefusalCause::Stranger);
+                }
                 Accepted::Nothing => door.has_more = false,
                 Accepted::Failed(cause) => {
                     if !had_failed {
-                        self.tell_refused(door.side, RefusalCause::System(cause));
+                        let cause = RefusalCause::System(cause);
+                        note_refused(&mut self.connections.events, door.side, cause);
                     }
                     return true;
                 }
             }
         }
         false
-    }
-
-    /// A connection was not taken for this cause.
-    fn tell_refused(&mut self, side: Side, cause: RefusalCause) {
-        if let Some(caller) = caller_of(side) {
-            let event = Event::ConnectionRefused { caller, cause };
-            self.connections.events.note(event);
-        }
     }
 
     /// Takes a stream. Whether it is not refused.
@@ -439,27 +476,19 @@ impl<C: ServerCalls> Server<TcpStream, C> {
         side: Side,
     ) -> bool {
         let _ = stream.set_nodelay(true);
-        self.draw_word(rt, side);
+        // where the system gives none, the route is refused
+        if !is_client(side) && self.wants_word() {
+            self.guard.draw_word(rt);
+        }
         match self.add(rt, stream, side) {
             Ok(key) => {
                 self.begin(poll, key, side);
                 true
             }
             Err(fault) => {
-                self.tell_refused(side, refusal_of(fault));
+                note_refused(&mut self.connections.events, side, refusal_of(fault));
                 false
             }
-        }
-    }
-
-    /// Draws a random word where the next connection is a route that needs one. Where the system gives none, the route is refused.
-    fn draw_word<R: RandomSource>(&mut self, rt: &R, side: Side) {
-        if is_client(side) || !self.wants_word() {
-            return;
-        }
-        let mut word = [0; WORD];
-        if rt.fill_bytes(&mut word).is_ok() {
-            self.set_word(word);
         }
     }
 
@@ -468,22 +497,13 @@ impl<C: ServerCalls> Server<TcpStream, C> {
         if matches!(side, Side::Dialed(_)) {
             self.await_stream(key);
         }
-        if !self.watch(poll, key, side) {
+        let is_watched = match self.stream_mut(key) {
+            None => false,
+            Some(stream) => watch(poll, stream, key, side),
+        };
+        if !is_watched {
             self.connections.give_up_for(key, Cause::Unwatched);
         }
-    }
-
-    /// Has the system tell when a connection is ready; whether it does. It is also to end a route whose other end answers nothing any more: a
-    /// system that does not leaves a route as it was, and a lost server is noticed later.
-    fn watch(&mut self, poll: &Poll, key: usize, side: Side) -> bool {
-        let both = Interest::READABLE | Interest::WRITABLE;
-        let Some(stream) = self.stream_mut(key) else {
-            return false;
-        };
-        if !is_client(side) {
-            let _ = end_unanswered(&*stream, UNANSWERED, ASKED_EVERY);
-        }
-        poll.registry().register(stream, Token(key), both).is_ok()
     }
 
     /// Dials the servers of the cluster that are not reached and are due.
@@ -499,72 +519,18 @@ impl<C: ServerCalls> Server<TcpStream, C> {
             let now = self.connections.now;
             rounds.redials.look(place, now, is_reached);
             addresses.note(place, is_reached);
-            if self.peers.is_missing(&self.life, place) && rounds.redials.is_due(place, now) {
+            if self.peers.is_missing(&self.life, place) && rounds.redials.due(place) <= now {
                 rounds.redials.dial(place, now);
-                self.dial(rt, &rounds.poll, place, addresses.dial(rt, place));
+                if let Some(stream) = connect(rt, addresses.dial(rt, place)) {
+                    let _is_taken = self.take(rt, &rounds.poll, stream, Side::Dialed(place));
+                }
             }
         }
-    }
-
-    /// Dials the server at this place, where its address is known.
-    fn dial<R: Wait + Net + RandomSource>(
-        &mut self,
-        rt: &R,
-        poll: &Poll,
-        place: usize,
-        address: Option<SocketAddr>,
-    ) {
-        let Some(address) = address else {
-            return;
-        };
-        if let Ok(stream) = TcpStream::connect(rt, address) {
-            let _is_taken = self.take(rt, poll, stream, Side::Dialed(place));
-        }
-    }
-
-    /// How long to wait for a socket; None is for ever.
-    fn patience(&self, rounds: &Rounds) -> Option<Duration> {
-        if rounds.may_accept() {
-            return Some(Duration::from_millis(0));
-        }
-        let now = self.connections.now;
-        let mut until = self.next_turn().unwrap_or(u64::MAX);
-        for place in 0..self.peers.count() {
-            if self.peers.is_missing(&self.life, place) {
-                until = until.min(rounds.redials.due(place));
-            }
-        }
-        if rounds.has_failed {
-            until = until.min(now.saturating_add(RETRY));
-        }
-        if until == u64::MAX {
-            return None;
-        }
-        Some(Duration::from_millis(until.saturating_sub(now)))
-    }
-
-    /// Notes which connection is ready, or where connections come in.
-    fn note_event(&mut self, event: &Ready, rounds: &mut Rounds) -> Result<(), AllocError> {
-        let token = event.token();
-        if token == CLIENTS {
-            rounds.clients.has_more = true;
-        } else if token == ROUTES {
-            rounds.routes.has_more = true;
-        } else if token == CONTROL || token == CONTROL_LINK {
-            rounds.is_controlled = true;
-        } else if token != WAKER {
-            return self.note_ready(event, token.0, rounds);
-        }
-        Ok(())
     }
 
     /// Notes that a connection is ready.
-    fn note_ready(
-        &mut self,
-        event: &Ready,
-        key: usize,
-        rounds: &mut Rounds,
-    ) -> Result<(), AllocError> {
+    fn note_ready(&mut self, event: &Ready, rounds: &mut Rounds) -> Result<(), AllocError> {
+        let Token(key) = event.token();
         let has_closed = event.is_read_closed() || event.is_error();
         if !has_closed {
             self.connected(key);
@@ -572,9 +538,10 @@ impl<C: ServerCalls> Server<TcpStream, C> {
             connection.hangs_up = true;
         }
         if has_closed || event.is_readable() {
-            return rounds.note(key);
+            rounds.ready.push(key)?;
+        } else {
+            self.connections.await_bytes(key);
         }
-        self.connections.await_bytes(key);
         Ok(())
     }
 }

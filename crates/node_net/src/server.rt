@@ -10,6 +10,7 @@ use crate::connection::{Cause, Connection, Link};
 use crate::connections::Connections;
 use crate::draining::Drain;
 use crate::faults::AddFault;
+use crate::handshake::Said;
 use crate::holds::{accept, attach, cut, dial};
 use crate::limits::{DIAL, GREETING};
 use crate::peers::{Peers, name_at};
@@ -20,7 +21,6 @@ use client_frames::ServerInfo;
 use net_streams::Stream;
 use rand_core::SeedableRng;
 use rand_pcg::Pcg64;
-use route_frames::{RouteFrame, RouteInfo, encode};
 use server_calls::ServerCalls;
 use server_events::{Event, Events, PeerCause, RefusalCause};
 use shard_core::DirtyConns;
@@ -49,9 +49,21 @@ pub fn shard_of_client(client: u64, shards: u64) -> u64
     client.saturating_sub(1) % shards + 1
 }
 
-/// Encodes what a server that has dialed is told first.
-pub(crate) fn encode_info(info: RouteInfo, encoded: &mut Vec<u8>) -> Result<(), AllocError> {
-    encode(&RouteFrame::Info(info), encoded)
+/// A server that has dialed. What it is told first is encoded.
+fn accepted<C: ServerCalls, R: Wait>(
+    rt: &R,
+    node: C,
+    alloc: Global,
+    from: Option<SocketAddr>,
+    encoded: &mut Vec<u8>,
+) -> Result<Link, AddFault> {
+    let (session, info) = accept(rt, node)?;
+    if Said::Info(info).encode(encoded).is_err() {
+        cut(rt, node, session);
+        return Err(AddFault::OutOfMemory);
+    }
+    let stage = Stage::Accepted { from, proved: None };
+    Ok(Link::Route(RouteLink::new(alloc, Some(session), stage, None)))
 }
 
 /// What is told of another server whose route ended for this cause; without one its connection broke.
@@ -139,12 +151,12 @@ impl<S: Stream, C: ServerCalls> Server<S, C> {
 
     /// The stream of a connection.
     pub fn stream(&self, key: usize) -> Option<&S> {
-        Some(self.connections.table.get(key)?.stream())
+        Some(self.connections.table.get(key)?.wire.stream())
     }
 
     /// The stream of a connection, to be changed.
     pub fn stream_mut(&mut self, key: usize) -> Option<&mut S> {
-        Some(self.connections.table.get_mut(key)?.stream_mut())
+        Some(self.connections.table.get_mut(key)?.wire.stream_mut())
     }
 
     /// The shard that a client's connection is of, counted from 1.
@@ -160,11 +172,20 @@ impl<S: Stream, C: ServerCalls> Server<S, C> {
     /// Takes a stream, with this end at its other side, and answers its key. What a client or a server that
     /// dialed is told first goes out with the next turn. A stream that is refused is closed. May wait.
     pub fn add<R: Wait>(&mut self, rt: &R, stream: S, side: Side) -> Result<usize, AddFault> {
+        let deadline = self.connections.now.saturating_add(GREETING);
         let link = self.link(rt, side)?;
-        let connection = self.connection(stream, link);
+        let connection = Connection::greeted(self.alloc, stream, link, deadline, &self.encoded);
         let client = connection.client();
         let key = self.connections.add(connection)?;
-        self.note_added(key, side, client);
+        match side {
+            Side::Client => {}
+            Side::Accepted(_) => self.note_stranger(key),
+            Side::Dialed(peer) => self.peers.dial(peer, key),
+        }
+        if let Some(client) = client {
+            self.clients.add(client, key);
+            self.connections.events.note(Event::ClientCame { client });
+        }
         Ok(key)
     }
 
@@ -186,37 +207,17 @@ impl<S: Stream, C: ServerCalls> Server<S, C> {
         }
     }
 
-    /// Notes what leads to a connection that was taken, which is of this client where it is of one.
-    fn note_added(&mut self, key: usize, side: Side, client: Option<ConnId>) {
-        match side {
-            Side::Client => {}
-            Side::Accepted(_) => self.note_stranger(key),
-            Side::Dialed(peer) => self.peers.dial(peer, key),
-        }
-        if let Some(client) = client {
-            self.clients.add(client, key);
-            self.connections.events.note(Event::ClientCame { client });
-        }
-    }
-
-    /// The connection of a stream, which is sent what is encoded. A route is to tell who it is before [`GREETING`] has passed.
-    fn connection(&self, stream: S, link: Link) -> Connection<S> {
-        let mut connection = Connection::new(self.alloc, stream, link);
-        if connection.is_unknown() {
-            connection.limit(self.connections.now.saturating_add(GREETING));
-        }
-        connection.send(&self.encoded);
-        connection
-    }
-
     /// What is known of whoever is at the other end, once there is room for one connection more. What that is told first is encoded.
     fn link<R: Wait>(&mut self, rt: &R, side: Side) -> Result<Link, AddFault> {
         self.connections.reserve()?;
         self.encoded.clear();
         match side {
             Side::Client => self.client(rt),
-            Side::Accepted(from) if self.has_secret() => self.stranger(from),
-            Side::Accepted(from) => self.accepted(rt, from),
+            Side::Accepted(_) if self.has_secret() && !self.has_place() => {
+                Err(AddFault::TooManyStrangers)
+            }
+            Side::Accepted(from) if self.has_secret() => self.guard.stranger(self.alloc, from),
+            Side::Accepted(from) => accepted(rt, self.node, self.alloc, from, &mut self.encoded),
             Side::Dialed(peer) => self.dialed(rt, peer),
         }
     }
@@ -231,24 +232,10 @@ impl<S: Stream, C: ServerCalls> Server<S, C> {
         Ok(Link::Client(link))
     }
 
-    /// A server that has dialed.
-    fn accepted<R: Wait>(&mut self, rt: &R, from: Option<SocketAddr>) -> Result<Link, AddFault> {
-        let (session, info) = accept(rt, self.node)?;
-        if encode_info(info, &mut self.encoded).is_err() {
-            cut(rt, self.node, session);
-            return Err(AddFault::OutOfMemory);
-        }
-        let stage = Stage::Accepted { from, proved: None };
-        Ok(Link::Route(RouteLink::new(self.alloc, Some(session), stage, None)))
-    }
-
     /// The server at this place, which is dialed.
     fn dialed<R: Wait>(&mut self, rt: &R, peer: usize) -> Result<Link, AddFault> {
-        let proof = if self.has_secret() {
-            Some(self.greeting(peer)?)
-        } else {
-            None
-        };
+        let encoded = &mut self.encoded;
+        let proof = self.guard.greeting(self.alloc, &self.life, peer, encoded)?;
         match dial(rt, self.node, peer) {
             Err(fault) => Err(AddFault::from(fault)),
             Ok(session) => {
@@ -291,10 +278,7 @@ impl<S: Stream, C: ServerCalls> Server<S, C> {
     {
         match connection.client() {
             Some(client) => self.forget_client(client, connection),
-            None => {
-                self.forget_stranger(key, connection);
-                self.forget_route(key, connection.cause);
-            }
+            None => self.forget_route(key, connection),
         }
     }
 
@@ -310,18 +294,19 @@ impl<S: Stream, C: ServerCalls> Server<S, C> {
     }
 
     /// The same of a route, over which another server may have been reached.
-    fn forget_route(&mut self, key: usize, cause: Option<Cause>)
+    fn forget_route(&mut self, key: usize, connection: &Connection<S>)
         ensures { self.new.connections.table ≡ self.old.connections.table }
     {
-        if let Some(place) = self.peers.place_of(key) {
-            if let Some(peer) = name_at(&self.life, place) {
-                let cause = peer_cause(cause);
-                self.connections
-                    .events
-                    .note(Event::PeerDown { peer, cause });
-            }
+        self.forget_stranger(key, connection);
+        let Some(place) = self.peers.lose(key) else {
+            return;
+        };
+        if let Some(peer) = name_at(&self.life, place) {
+            let cause = peer_cause(connection.cause);
+            self.connections
+                .events
+                .note(Event::PeerDown { peer, cause });
         }
-        self.peers.lose(key);
     }
 
     /// The same of somebody who has not proved which server it is, where it is one. That it went of its own accord is told.

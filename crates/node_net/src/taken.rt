@@ -4,7 +4,7 @@ ghost use Rattle.std.specs.Prelude.{◌≡◌, ◌++◌, ◌∷◌, [], None, Is
 ghost use Rattle.std.specs.Bool.{OnTrue, OnFalse};
 ghost use Rattle.node_net.specs.Taking.{all_parts};
 
-use crate::limits::{BUSY_BYTES, KEPT_BYTES, TAKEN_AT_ONCE};
+use crate::limits::{BUSY_BYTES, TAKEN_AT_ONCE};
 use crate::parts::{Parts, let_go_beyond};
 use std::alloc::Global;
 
@@ -78,18 +78,8 @@ impl Taken {
         let_go_beyond(self.alloc, &mut self.lent, BUSY_BYTES);
     }
 
-    /// What was taken is sent: a buffer for more than large messages does not stay.
-    pub fn let_go(&mut self) {
-        self.let_go_beyond(BUSY_BYTES);
-    }
-
-    /// Connections rest: no large buffer stays.
-    pub fn rest(&mut self) {
-        self.let_go_beyond(KEPT_BYTES);
-    }
-
     /// Nothing is taken any more: a buffer with more than so many bytes of room does not stay.
-    fn let_go_beyond(&mut self, room: usize) {
+    pub fn let_go_beyond(&mut self, room: usize) {
         self.clear();
         self.parts.let_go_beyond(room);
         let_go_beyond(self.alloc, &mut self.lent, room);

@@ -6,14 +6,15 @@ ghost use Rattle.hub_core.specs.declared.answers.CollectResult.{CollectResult};
 ghost use Rattle.node_net.specs.Turning.{Works, WorksShard, WorksBetween, WorksEach, CollectsEach};
 
 use crate::connection::Cause;
+use crate::connections::{last_bytes, swapped};
+use crate::handshake::Said;
 use crate::holds::{push_jobs, work_shard};
-use crate::limits::TAKEN_EARLY;
+use crate::limits::{KEPT_BYTES, TAKEN_EARLY};
 use crate::peers::name_at;
 use crate::route_link::{Greeted, Stepped};
 use crate::runs::{Ran, RunOutcome};
 use crate::server::Server;
 use net_streams::Stream;
-use route_frames::{RouteConnect, RouteFrame, encode};
 use server_calls::{NextJob, ServerCalls, ShardCalls};
 use server_events::{Event, RefusalCause};
 use std::alloc::AllocError;
@@ -27,18 +28,6 @@ pub(crate) struct Worked {
     has_deltas: bool,
     is_short: bool,
     is_urgent: bool,
-}
-
-impl Worked {
-    /// Nothing was worked.
-    fn nothing() -> Worked {
-        Worked {
-            jobs: 0,
-            has_deltas: false,
-            is_short: false,
-            is_urgent: false,
-        }
-    }
 }
 
 /// Works a shard until no job waits for it, or what waits for a client has come to half of its room.
@@ -68,7 +57,12 @@ fn work_jobs<H: ShardCalls, R: Wait>(rt: &R, shard: &mut H, worked: &mut Worked)
 pub(crate) fn work_held<H: ShardCalls, R: Wait>(rt: &R, shard: &mut H) -> Worked
     ensures { Works H.worked result.is_urgent shard.old shard.new }
 {
-    let mut worked = Worked::nothing();
+    let mut worked = Worked {
+        jobs: 0,
+        has_deltas: false,
+        is_short: false,
+        is_urgent: false,
+    };
     work_jobs(rt, shard, &mut worked);
     worked.has_deltas = shard.has_deltas();
     worked
@@ -78,11 +72,6 @@ pub(crate) fn work_held<H: ShardCalls, R: Wait>(rt: &R, shard: &mut H) -> Worked
 fn next_first(first: u64, count: u64) -> u64 {
     let next = first.saturating_add(1);
     if next < count { next } else { 0 }
-}
-
-/// Encodes what a server that was dialed is told back.
-fn encode_answer(answer: RouteConnect, encoded: &mut Vec<u8>) -> Result<(), AllocError> {
-    encode(&RouteFrame::Connect(answer), encoded)
 }
 
 /// Why a client was shut in a run: for what it asked, where it was told so, and else since it does not read.
@@ -108,7 +97,7 @@ impl<S: Stream, C: ServerCalls> Server<S, C> {
         let was_short = std::mem::replace(&mut self.connections.is_short, false);
         self.serve_all(rt, keys);
         if self.connections.end_overdue() {
-            self.taken.rest();
+            self.taken.let_go_beyond(KEPT_BYTES);
         }
         self.work(rt, node);
         self.flush(rt);
@@ -144,8 +133,10 @@ impl<S: Stream, C: ServerCalls> Server<S, C> {
 
     /// Serves the connections that are to be served again, and these.
     fn serve_all<R: Wait>(&mut self, rt: &R, keys: &[usize]) {
-        for place in 0..self.connections.begin_turn() {
-            if let Some(key) = self.connections.served_again(place) {
+        let connections = &mut self.connections;
+        connections.turns = connections.turns.wrapping_add(1);
+        for place in 0..swapped(&mut connections.again, &mut connections.serving) {
+            if let Some(key) = self.connections.serving.get(place).copied() {
                 self.serve(rt, key);
             }
         }
@@ -183,9 +174,19 @@ impl<S: Stream, C: ServerCalls> Server<S, C> {
         }
     }
 
-    /// What follows a run: what was put is taken and written where it has come to enough. Whether the connection goes on.
+    /// What follows a run: it is noted what the run has told and has handed to the shards, and what was put is taken and written where it has come
+    /// to enough. Whether the connection goes on.
     fn after_run<R: Wait>(&mut self, rt: &R, key: usize, run: RunOutcome) -> bool {
-        self.note_run(rt, key, run);
+        if run.end == Ran::Shut {
+            self.connections.blame(key, shut_cause(run), 0);
+            self.connections.shut(key);
+        }
+        if run.has_deltas {
+            let shard = self.shard(key);
+            let _done = self.tell_of(rt, shard);
+        }
+        let jobs = run.jobs.saturating_mul(self.node.shards());
+        self.unworked = self.unworked.saturating_add(jobs);
         if run.issued > 0 || run.end == Ran::Busy {
             self.connections.has_told = true;
             let node = self.node;
@@ -198,19 +199,6 @@ impl<S: Stream, C: ServerCalls> Server<S, C> {
             self.write_frames(rt);
         }
         self.goes_on_after(key, run.end)
-    }
-
-    /// Notes what a run has come to, what it has told, and what it has handed to the shards.
-    fn note_run<R: Wait>(&mut self, rt: &R, key: usize, run: RunOutcome) {
-        if run.end == Ran::Shut {
-            self.connections.blame(key, shut_cause(run), 0);
-            self.connections.shut(key);
-        }
-        if run.has_deltas {
-            let _done = self.tell_of(rt, key);
-        }
-        let jobs = run.jobs.saturating_mul(self.node.shards());
-        self.unworked = self.unworked.saturating_add(jobs);
     }
 
     /// Whether a connection goes on behind a run that ended so.
@@ -237,9 +225,7 @@ impl<S: Stream, C: ServerCalls> Server<S, C> {
             connection.lift_limit();
         }
         if let Some(answer) = greeted.answer {
-            self.encoded.clear();
-            let is_whole = encode_answer(answer, &mut self.encoded).is_ok();
-            self.connections.send_encoded(key, &self.encoded, is_whole);
+            self.say(key, Said::Connect(answer));
         }
         true
     }
@@ -307,16 +293,9 @@ impl<S: Stream, C: ServerCalls> Server<S, C> {
     fn work_one<R: Wait>(&mut self, rt: &R, node: C, number: u64) -> bool
         ensures { WorksShard C.Shard.worked C.Shard.number (C.lacks node) result number }
     {
-        match work_shard(rt, node, number) {
-            None => false,
-            Some(worked) => self.after_work(rt, node, number, worked),
-        }
-    }
-
-    /// Notes how a shard was worked. Whether it is to be worked on once what was put is taken.
-    fn after_work<R: Wait>(&mut self, rt: &R, node: C, number: u64, worked: Worked) -> bool
-        ensures { result ≡ worked.is_urgent }
-    {
+        let Some(worked) = work_shard(rt, node, number) else {
+            return false;
+        };
         self.unworked = self.unworked.saturating_sub(worked.jobs);
         self.connections.is_short |= worked.is_short;
         if worked.has_deltas {
@@ -364,15 +343,17 @@ impl<S: Stream, C: ServerCalls> Server<S, C> {
     }
 
     /// Where the other end of a connection sends nothing any more, a route is closed. A client is a member of nothing any more, once all is
-    /// done that it asked for; what waits for it is written, and then it is closed, and at the latest at its deadline.
+    /// done that it asked for; what waits for it is written, and then it is closed, and at most [`LAST_BYTES`] from now.
     fn end<R: Wait>(&mut self, rt: &R, key: usize) {
-        if !self.connections.end(key) {
-            return;
-        }
-        let Some(connection) = self.connections.table.get(key) else {
+        let deadline = last_bytes(self.connections.now);
+        let Some(connection) = self.connections.table.get_mut(key) else {
             return;
         };
+        if !connection.end(deadline) {
+            return;
+        }
         let is_behind = connection.is_short || self.unworked > 0;
+        self.connections.await_deadline(key);
         if is_behind || self.leave(rt, key).is_err() {
             self.connections.postpone(key);
         } else {
@@ -391,7 +372,8 @@ impl<S: Stream, C: ServerCalls> Server<S, C> {
             Some(connection) => connection.leave(rt, self.node, &mut self.taken.lent),
         };
         self.taken.let_go_of_lent();
-        let _done = self.tell_of(rt, key);
+        let shard = self.shard(key);
+        let _done = self.tell_of(rt, shard);
         left
     }
 
@@ -405,25 +387,20 @@ impl<S: Stream, C: ServerCalls> Server<S, C> {
             if !connection.close_some(rt, self.node) {
                 return true;
             }
-            if !self.tell_of(rt, key) {
+            let shard = self.shard(key);
+            if !self.tell_of(rt, shard) {
                 return false;
             }
         }
         false
     }
 
-    /// Has the hub count what a client's shard has opened and closed, and tells the other servers, of what waited for them first.
+    /// Has the hub count what the shard of a client has opened and closed, and tells the other servers, of what waited for them first.
     /// Whether there was memory for that.
-    fn tell_of<R: Wait>(&mut self, rt: &R, key: usize) -> bool {
-        match self.shard(key) {
-            None => true,
-            Some(shard) => self.tell_of_shard(rt, shard),
-        }
-    }
-
-    /// Has the hub count what a shard has opened and closed, and tells the other servers, of what waited for them first.
-    /// Whether there was memory for that.
-    fn tell_of_shard<R: Wait>(&mut self, rt: &R, shard: u64) -> bool {
+    fn tell_of<R: Wait>(&mut self, rt: &R, shard: Option<u64>) -> bool {
+        let Some(shard) = shard else {
+            return true;
+        };
         self.write_frames(rt);
         let node = self.node;
         let done = self.collect(rt, node, shard);
@@ -433,7 +410,8 @@ impl<S: Stream, C: ServerCalls> Server<S, C> {
 
     /// Closes the connections that go. One for which there is no memory goes later.
     fn close_leaving<R: Wait>(&mut self, rt: &R) {
-        for place in 0..self.connections.begin_closing() {
+        let connections = &mut self.connections;
+        for place in 0..swapped(&mut connections.leaving, &mut connections.going) {
             if let Some(key) = self.connections.going(place) {
                 if self.close(rt, key).is_err() {
                     self.connections.is_short = true;
@@ -451,9 +429,7 @@ impl<S: Stream, C: ServerCalls> Server<S, C> {
             return Err(AllocError);
         }
         drop(self.remove(rt, key)?);
-        if let Some(shard) = shard {
-            let _done = self.tell_of_shard(rt, shard);
-        }
+        let _done = self.tell_of(rt, shard);
         Ok(())
     }
 }
