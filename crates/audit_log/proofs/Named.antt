@@ -5,7 +5,7 @@ use Rattle.serde_json.specs.Data.{Data}
 use Rattle.subj.specs.declared.failures.Failure.{Failure}
 use Rattle.subj.specs.declared.faults.NameFault.{NameFault}
 use Rattle.script_form.specs.Members.{valid, valid_where_there, MemberMeans}
-use Rattle.audit_log.specs.declared.texts.Text.{Text}
+use Rattle.audit_log.specs.declared.entries.Text.{Text}
 use Rattle.audit_log.specs.Members.{bytes_in, named_in, optional_bytes_in, optional_named_in}
 
 pub name_means : {M : Type 0} (fault : List ℕ → Option NameFault) (key : Text) (json : Data) (name : List ℕ)

@@ -11,7 +11,7 @@ use Rattle.subj.specs.Messages.{Content, content_of}
 use Rattle.subj.specs.Names.{pattern_fault, subject_fault, queue_name_fault, sid_fault}
 use Rattle.world_law.specs.State.{Life, LifeId, Placement, Publication}
 use Rattle.script_form.specs.Members.{◌>>=◌, truth, whole}
-use Rattle.audit_log.specs.declared.texts.Text.TheVariants as key
+use Rattle.audit_log.specs.declared.entries.Text.TheVariants as key
 use Rattle.audit_log.specs.Members.{bytes_in, incarnation_in, member, named_in, optional, optional_bytes_in, optional_named_in, server_in}
 
 -- ---- names

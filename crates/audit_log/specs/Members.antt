@@ -10,7 +10,7 @@ use Rattle.subj.specs.declared.faults.NameFault.{NameFault}
 use Rattle.subj.specs.Names.{node_name_fault}
 use Rattle.subj.specs.Numbers.{incarnation_of}
 use Rattle.script_form.specs.Members.{◌>>=◌, whole, text, valid, valid_where_there, where_there}
-use Rattle.audit_log.specs.declared.texts.Text.{Text}
+use Rattle.audit_log.specs.declared.entries.Text.{Text}
 use Rattle.audit_log.specs.Texts.{name_of, hex_name_of}
 
 -- ---- a member that has to be there

@@ -1,8 +1,8 @@
 -- How bytes are called in a line (profile): by one name where they are a text, and by another where
 -- they are hex digits.
 use Rattle.std.specs.Prelude.{ℕ, List, ◌++◌, codes}
-use Rattle.audit_log.specs.declared.texts.Text.{Text}
-use Rattle.audit_log.specs.declared.texts.Text.TheVariants.{Subject, Reply, Headers, Payload, Pattern, Queue, Sid, Bytes}
+use Rattle.audit_log.specs.declared.entries.Text.{Text}
+use Rattle.audit_log.specs.declared.entries.Text.TheVariants.{Subject, Reply, Headers, Payload, Pattern, Queue, Sid, Bytes}
 
 abbrev pub name_of : Text → List ℕ
 name_of Subject = codes "subject"

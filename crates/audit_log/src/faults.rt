@@ -3,7 +3,6 @@
 ghost use Rattle.std.specs.Prelude.{◌≡◌};
 ghost use Rattle.audit_log.specs.Faults.{log_fault_number};
 
-use subj::Failure;
 use thiserror::Error;
 
 /// Why a line that begins as an object is none of a log's. The first cause that holds is told. (Profile.)
@@ -34,19 +33,4 @@ pub struct LogError {
     pub fault: LogFault,
     /// The line that is refused, from 1, to be shown to who wrote the log.
     pub line: u64,
-}
-
-/// A member of an object is missing, or is not what it has to be.
-#[derive(Clone, Copy)]
-pub(crate) struct Misfit;
-
-impl From<Misfit> for Failure<Misfit> {
-    ghost use Rattle.std.specs.Prelude.{◌≡◌};
-    ghost use Rattle.subj.specs.declared.failures.Failure.TheVariants.{Refused};
-
-    ghost from_gives = { λ misfit failure. failure ≡ Refused misfit };
-
-    fn from(misfit: Misfit) -> Failure<Misfit> {
-        Failure::Refused(misfit)
-    }
 }

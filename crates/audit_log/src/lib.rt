@@ -9,17 +9,14 @@
 //! all others the refusal of the first line that is none of a log's; [`Log::audit`] tells the first placement that breaks the clause with
 //! those before it.
 //!
-//! In reading order: `texts` says how bytes are called in a line, `members` reads members of a JSON object, `entries` what an object tells,
-//! `lines` cuts bytes into lines, and `logs` gathers what they tell. `faults` has the causes for which bytes are no log.
+//! In reading order: `entries` says how bytes are called in a line, and reads what an object tells, member by member; `logs` cuts bytes into
+//! lines, and gathers what they tell. `faults` has the causes for which bytes are no log.
 #![tactic(auto)]
 
 mod entries;
 mod faults;
-mod lines;
 mod logs;
-mod members;
-mod texts;
 
+pub use entries::Text;
 pub use faults::{LogError, LogFault};
 pub use logs::Log;
-pub use texts::Text;

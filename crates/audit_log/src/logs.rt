@@ -1,22 +1,50 @@
-//! What the lines of a log tell is gathered.
+//! Bytes are cut into lines, and what these tell is gathered.
 
-ghost use Rattle.std.specs.Prelude.{◌≡◌, ◌++◌, ◌∷◌, [], position, IfOk, OnOk};
+ghost use Rattle.std.specs.Prelude.{◌≡◌, ◌∷◌, ◌<◌, length, position, IfSome, ◌++◌, [], IfOk, OnOk};
+ghost use Rattle.std.specs.Option.{option_copied};
+ghost use Rattle.audit_log.specs.Logs.{is_line_end, is_object as begins_as_object, lines_behind, lines_of, AddsLine, AddsLines, AddsObject, Reads, ReadsJson, log_of_shape, new_log, with_life, with_line, with_lines, with_name, with_object, with_placement, with_publication};
 ghost use Rattle.std.specs.Str.{bytes_eq};
 ghost use Rattle.serde_json.specs.View.{view};
 ghost use Rattle.subj.specs.Servers.{place_in};
 ghost use Rattle.placement_audit.specs.Verdicts.{IsVerdict};
-ghost use Rattle.audit_log.specs.Logs.{AddsLine, AddsLines, AddsObject, Reads, ReadsJson, lines_of, log_of_shape, new_log, with_life, with_line, with_lines, with_name, with_object, with_placement, with_publication};
 
-use crate::entries::{life, placement, publication};
-use crate::faults::{LogError, LogFault, Misfit};
-use crate::lines::{first_line, is_object};
-use crate::members::{part, server};
+use crate::entries::{Misfit, life, part, placement, publication, server};
+use crate::faults::{LogError, LogFault};
 use cluster_world::{Life, Publication};
+use line_fields::split_field;
 use placement_audit::{Placement, audit};
 use serde_json::Value;
 use std::alloc::{AllocError, Global};
 use std::marker::Model;
 use subj::{Failure, NodeId};
+
+/// Where the first LF stands.
+fn first_end(bytes: &[u8]) -> Option<usize>
+    ensures { result ≡ position is_line_end bytes.now }
+{
+    bytes.iter().position(|byte| *byte == b'\n')
+}
+
+/// The first line, and what stands behind its LF where there is one.
+pub(crate) fn first_line(bytes: &[u8]) -> (&[u8], Option<&[u8]>)
+    ensures cut { lines_of bytes.now ≡ result.0.now ∷ lines_behind (option_copied result.1) }
+    ensures shorter { IfSome result.1 (λ rest. length rest.now < length bytes.now) }
+{
+    match first_end(bytes) {
+        None => (bytes, None),
+        Some(end) => (&bytes[..end], Some(&bytes[end + 1..])),
+    }
+}
+
+/// Whether the line begins as an object does, behind blanks.
+pub(crate) fn is_object(line: &[u8]) -> bool
+    ensures { result ≡ begins_as_object line.now }
+{
+    match split_field(line) {
+        None => false,
+        Some((field, _)) => field.starts_with(b"{"),
+    }
+}
 
 /// What lines told, each kind in its order. (Profile.)
 ///

@@ -1,7 +1,7 @@
 -- How many lines of a kind are told in a second. (Profile.)
 use Rattle.std.specs.Prelude.{◌≡◌, ◌≢◌, ℕ, Bool, true, ◌+◌, ◌-◌, ◌^◌, ◌≤◌, nat_le, min, if◌then◌else◌, List, [], ◌∷◌, take, slice_get, IfSome}
 use Rattle.std.specs.Option.{option_map_or}
-use Rattle.event_log.specs.declared.rates.Rate.{Rate}
+use Rattle.event_log.specs.declared.backlog.Rate.{Rate}
 
 -- where the lines before it were told at these times, in milliseconds and the newest first, a line
 -- that comes now is told: the tenth before it was told a second ago, or there is none

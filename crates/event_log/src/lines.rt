@@ -134,21 +134,6 @@ fn write_refusal<W: Write, D: Display + Drop>(
     }
 }
 
-/// A number between words.
-fn write_count<W: Write>(
-    f: &mut Formatter<W>,
-    before: &str,
-    count: u64,
-    behind: &str,
-) -> fmt::Result {
-    write!(f, "{before} {count} {behind}")
-}
-
-/// What a client did.
-fn write_client<W: Write>(f: &mut Formatter<W>, client: ConnId, what: &str) -> fmt::Result {
-    write!(f, "client {} {what}", client.get())
-}
-
 fn write_closed<W: Write>(
     f: &mut Formatter<W>,
     client: ConnId,
@@ -201,8 +186,8 @@ impl Display for EventText {
             ),
             Event::PeerUp { peer } => write!(f, "{} is reached", peer.text()),
             Event::PeerDown { peer, cause } => write_down(f, peer, cause),
-            Event::ClientCame { client } => write_client(f, client, "came"),
-            Event::ClientGone { client } => write_client(f, client, "went"),
+            Event::ClientCame { client } => write!(f, "client {} came", client.get()),
+            Event::ClientGone { client } => write!(f, "client {} went", client.get()),
             Event::ClientClosed {
                 client,
                 cause,
@@ -215,13 +200,12 @@ impl Display for EventText {
             Event::OutOfMemory => f.write_str(
                 "out of memory: what could not be done is tried again",
             ),
-            Event::DrainAsked { seconds } => {
-                write_count(f, "drains, for at most", seconds, "seconds")
-            }
+            Event::DrainAsked { seconds } => write!(f, "drains, for at most {seconds} seconds"),
             Event::Drained => f.write_str("has drained"),
-            Event::DrainedLate { clients } => {
-                write_count(f, "has drained too late:", clients, "clients were cut off")
-            }
+            Event::DrainedLate { clients } => write!(
+                f,
+                "has drained too late: {clients} clients were cut off"
+            ),
             Event::Stopped => f.write_str("stops"),
             Event::Failed { cause } => write!(f, "cannot go on: {}", SystemText(cause)),
             Event::PeerUnresolved { peer } => write_unresolved(f, peer),

@@ -7,7 +7,7 @@ use Rattle.std.proofs.lemmas.Bool.Decides.{nat_tests}
 use Rattle.subj.specs.Numbers.{incarnation_of}
 use Rattle.list_laws.proofs.Tests.{false_eq}
 use Rattle.subj.specs.declared.limits.TheConstants.{MAX_INCARNATION}
-use Rattle.incarnation_file.specs.declared.line.TheConstants.{CHECKSUM_DIGITS, NUMBER_DIGITS, NUMBER_START, NAME_START}
+use Rattle.incarnation_file.specs.declared.raising.TheConstants.{CHECKSUM_DIGITS, NUMBER_DIGITS, NUMBER_START, NAME_START}
 
 pub digits-zero : (k n : ℕ) → k ≡ 0 → digits k n ≡ []
 unfolding digits

@@ -6,8 +6,8 @@ use Rattle.incarnation_file.specs.Disk.{Content, IsFound}
 use Rattle.incarnation_file.specs.Line.{IsLine, line_of}
 use Rattle.incarnation_file.specs.Kept.{IsAtLeast, IsKept}
 use Rattle.incarnation_file.specs.Raising.{IsLast, IsNext, number_after, ReadTells, FaultTells}
-use Rattle.incarnation_file.specs.declared.faults.RaiseFault.{RaiseFault}
-use Rattle.incarnation_file.specs.declared.faults.RaiseFault.TheVariants.{Missing, Damaged, OtherServer, Spent, Disk, OutOfMemory}
+use Rattle.incarnation_file.specs.declared.raising.RaiseFault.{RaiseFault}
+use Rattle.incarnation_file.specs.declared.raising.RaiseFault.TheVariants.{Missing, Damaged, OtherServer, Spent, Disk, OutOfMemory}
 use Rattle.incarnation_file.proofs.Digits.{one_number}
 
 -- the number of a start is above the last one

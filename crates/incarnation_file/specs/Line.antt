@@ -3,7 +3,7 @@
 use Rattle.std.specs.Prelude.{ℕ, zero, suc, ◌+◌, ◌-◌, ◌*◌, ◌/◌, ◌%◌, ◌≤◌, ◌≡◌, List, [], ◌∷◌, ◌++◌, None}
 use Rattle.subj.specs.Names.{node_name_fault}
 use Rattle.subj.specs.declared.limits.TheConstants.{MAX_INCARNATION}
-use Rattle.incarnation_file.specs.declared.line.TheConstants.{BASE, PRIME, CHECKSUM_DIGITS, NUMBER_DIGITS}
+use Rattle.incarnation_file.specs.declared.raising.TheConstants.{BASE, PRIME, CHECKSUM_DIGITS, NUMBER_DIGITS}
 
 -- n in decimal, with that many digits
 unfoldable pub digits : ℕ → ℕ → List ℕ

@@ -3,8 +3,8 @@ use Rattle.std.specs.Prelude.{◌≡◌, ◌≢◌, ◌+◌, max, ℕ, List, Opt
 use Rattle.subj.specs.declared.limits.TheConstants.{MAX_INCARNATION}
 use Rattle.incarnation_file.specs.Disk.{Content, SomeOf}
 use Rattle.incarnation_file.specs.Line.{IsLine}
-use Rattle.incarnation_file.specs.declared.faults.RaiseFault.{RaiseFault}
-use Rattle.incarnation_file.specs.declared.faults.RaiseFault.TheVariants.{Missing, Damaged, OtherServer, Spent, Disk, OutOfMemory}
+use Rattle.incarnation_file.specs.declared.raising.RaiseFault.{RaiseFault}
+use Rattle.incarnation_file.specs.declared.raising.RaiseFault.TheVariants.{Missing, Damaged, OtherServer, Spent, Disk, OutOfMemory}
 
 -- the incarnation of the last start, as the file tells it
 abbrev pub IsLast : List ℕ → Content → Option ℕ → Type 0

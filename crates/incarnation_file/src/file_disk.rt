@@ -8,9 +8,7 @@
 ghost use Rattle.incarnation_file.specs.Disk.{content};
 ghost use Rattle.incarnation_file.specs.Memory.{now_counts};
 
-use crate::disk::Disk;
-use crate::faults::{OpenFault, Step, StepFault};
-use crate::memory::MemoryDisk;
+use crate::disk::{Disk, MemoryDisk, OpenFault, Step, StepFault};
 use std::alloc::{AllocError, Global};
 use std::fs::{self, File, Files, OpenOptions, TryLockError};
 use std::io::{self, Write};

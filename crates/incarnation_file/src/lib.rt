@@ -7,23 +7,17 @@
 //! ```
 //!
 //! In reading order: `Disk` (in `disk`) is what a disk does, and what the next start may find of
-//! it; `FileDisk` (`file_disk`) is a folder of the system, `MemoryDisk` (`memory`) a disk that
-//! fails as it is told; and `RaiseFault` (`faults`) is what an operator is told. `raise`
-//! (`raising`) takes the next number, from the line that `line` reads and writes, and `all_lives`
-//! (`lives`) is the law of many starts.
+//! it, and `MemoryDisk` a disk that fails as it is told; `FileDisk` (`file_disk`) is a folder of
+//! the system. `raise` (`raising`) takes the next number, from the line of the file, and
+//! `all_lives` is the law of many starts. The faults stand where they are told, in words for an
+//! operator: their texts name the files of the folder, and whoever tells them names the folder,
+//! which they do not know.
 #![tactic(auto)]
 
 mod disk;
-mod faults;
 mod file_disk;
-mod line;
-mod lives;
-mod memory;
 mod raising;
 
-pub use disk::{Crashes, Disk};
-pub use faults::{OpenFault, RaiseFault, Step, StepFault};
+pub use disk::{Crashes, Disk, Failing, MemoryDisk, OpenFault, Step, StepFault};
 pub use file_disk::FileDisk;
-pub use lives::{End, Life, all_lives};
-pub use memory::{Failing, MemoryDisk};
-pub use raising::raise;
+pub use raising::{End, Life, RaiseFault, all_lives, raise};

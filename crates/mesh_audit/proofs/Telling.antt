@@ -4,8 +4,8 @@ use Rattle.std.specs.Io.KnownBytes.{Consumes, IsAtEnd}
 use Rattle.std.proofs.KnownBytes.{Appends-nil}
 use Rattle.audit_log.specs.declared.faults.LogFault.{LogFault}
 use Rattle.audit_log.specs.Logs.{Log, log_of}
-use Rattle.mesh_audit.specs.declared.faults.AuditFault.{AuditFault}
-use Rattle.mesh_audit.specs.declared.faults.AuditFault.TheVariants.{Breach, Refused, Read, Write, OutOfMemory}
+use Rattle.mesh_audit.specs.declared.running.AuditFault.{AuditFault}
+use Rattle.mesh_audit.specs.declared.running.AuditFault.TheVariants.{Breach, Refused, Read, Write, OutOfMemory}
 use Rattle.mesh_audit.specs.Runs.{Audits, IsOfReading, ReadsAway, Tells, TellsAll, TellsRefusal, TellsVerdict}
 
 -- reading failed

@@ -7,8 +7,8 @@ use Rattle.placement_audit.specs.Verdicts.{IsVerdict}
 use Rattle.audit_log.specs.declared.faults.LogFault.{LogFault}
 use Rattle.audit_log.specs.Faults.{log_fault_number}
 use Rattle.audit_log.specs.Logs.{Log, log_of}
-use Rattle.mesh_audit.specs.declared.faults.AuditFault.{AuditFault}
-use Rattle.mesh_audit.specs.declared.faults.AuditFault.TheVariants.{Breach, Refused, Read, Write, OutOfMemory}
+use Rattle.mesh_audit.specs.declared.running.AuditFault.{AuditFault}
+use Rattle.mesh_audit.specs.declared.running.AuditFault.TheVariants.{Breach, Refused, Read, Write, OutOfMemory}
 
 -- ---- what is written
 

@@ -6,16 +6,12 @@
 //! ```
 //!
 //! [`script_audit_run`] plays a script, and writes what was published, subscribed and placed behind its text, as the lines of a log. [`audit_run`]
-//! reads a log, whoever wrote it, and writes what its audit tells. In reading order: `running` reads and tells the verdict, `writing` writes the
-//! lines of a log, and `scripts` plays. `faults` has the causes for which lines did not pass.
+//! reads a log, whoever wrote it, and writes what its audit tells. In reading order: `running` reads and tells the verdict, and `writing` plays
+//! scripts and writes the lines of a log.
 #![tactic(auto)]
 
-mod faults;
 mod running;
-mod scripts;
 mod writing;
 
-pub use faults::AuditFault;
-pub use running::audit_run;
-pub use scripts::script_audit_run;
-pub use writing::write_world;
+pub use running::{AuditFault, audit_run};
+pub use writing::{script_audit_run, write_world};

@@ -19,7 +19,7 @@ use Rattle.mesh_file.specs.Servers.{IsServer}
 use Rattle.mesh_file.specs.declared.faults.MeshFault.{MeshFault}
 use Rattle.mesh_file.specs.declared.faults.MeshFault.TheVariants.{Server, ServerCount}
 use Rattle.mesh_file.specs.declared.faults.ServerFault.{ServerFault}
-use Rattle.mesh_file.specs.declared.keys.TableKind.TheVariants as kind
+use Rattle.mesh_file.specs.declared.tables.TableKind.TheVariants as kind
 use Rattle.mesh_file.specs.declared.servers.MeshServer.{MeshServer}
 
 array_from : (value : Data) (items : Items) → as_array value ≡ Some items → value ≡ array items

@@ -5,7 +5,7 @@ use Rattle.toml.specs.View.{members_view, table_view}
 use Rattle.toml.specs.declared.value.Value.{Value}
 use Rattle.toml.proofs.Views.{Entry}
 use Rattle.mesh_file.specs.Keys.{knows, unknown_key}
-use Rattle.mesh_file.specs.declared.keys.TableKind.{TableKind}
+use Rattle.mesh_file.specs.declared.tables.TableKind.{TableKind}
 
 abbrev pub unknown_among : TableKind → List (String Global) → Option (List ℕ)
 unknown_among kind [] = None

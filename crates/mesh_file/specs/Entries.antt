@@ -16,7 +16,7 @@ use Rattle.mesh_file.specs.declared.faults.ServerKey.{ServerKey}
 use Rattle.mesh_file.specs.declared.faults.ServerKey.TheVariants.{Name, Clients, Routes, Advertise}
 use Rattle.mesh_file.specs.declared.faults.ValueFault.TheVariants.{Missing, NotText, BadForm}
 use Rattle.subj.specs.declared.hosts.TheConstants.{MAX_HOST}
-use Rattle.mesh_file.specs.declared.keys.TableKind.TheVariants as kind
+use Rattle.mesh_file.specs.declared.tables.TableKind.TheVariants as kind
 use Rattle.mesh_file.specs.declared.servers.MeshServer.{MeshServer}
 
 -- ---- the texts of keys

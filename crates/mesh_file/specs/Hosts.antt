@@ -3,7 +3,7 @@ use Rattle.std.specs.Prelude.{◌≡◌, ℕ, ◌-◌, Bool, true, not, ◌&&◌
 use Rattle.std.specs.Char.{is_ascii_alphabetic, is_ascii_alphanumeric}
 use Rattle.std.specs.List.{list_all, list_any}
 use Rattle.subj.specs.Names.{tokens}
-use Rattle.mesh_file.specs.declared.hosts.TheConstants.{MAX_LABEL}
+use Rattle.mesh_file.specs.declared.addresses.TheConstants.{MAX_LABEL}
 use Rattle.subj.specs.declared.hosts.TheConstants.{MAX_HOST}
 
 -- RFC 1123, 2.1: a label has letters, digits and `-`

@@ -5,8 +5,8 @@ use Rattle.std.specs.List.{list_any}
 use Rattle.std.specs.Str.{bytes_eq}
 use Rattle.toml.specs.Data.{Members, no_members, member}
 use Rattle.mesh_file.specs.declared.faults.TheConstants.{MAX_KEY_TEXT}
-use Rattle.mesh_file.specs.declared.keys.TableKind.{TableKind}
-use Rattle.mesh_file.specs.declared.keys.TableKind.TheVariants.{File, Mesh, Server}
+use Rattle.mesh_file.specs.declared.tables.TableKind.{TableKind}
+use Rattle.mesh_file.specs.declared.tables.TableKind.TheVariants.{File, Mesh, Server}
 
 -- the keys that a table may have
 abbrev pub keys_of : TableKind → List (List ℕ)

@@ -18,7 +18,7 @@ use Rattle.mesh_file.specs.declared.faults.MeshFault.{MeshFault}
 use Rattle.mesh_file.specs.declared.faults.MeshFault.TheVariants.{Syntax, MeshNotTable, Shards, SecretFile, UnknownMeshKey, UnknownKey, ServersNotArray, ServerCount, Server, Pair}
 use Rattle.mesh_file.specs.declared.faults.Pair.{Pair as SharedPair}
 use Rattle.mesh_file.specs.declared.faults.ServerFault.{ServerFault}
-use Rattle.mesh_file.specs.declared.keys.TableKind.TheVariants as kind
+use Rattle.mesh_file.specs.declared.tables.TableKind.TheVariants as kind
 use Rattle.mesh_file.specs.declared.tables.TheConstants.{DEFAULT_SHARDS}
 use Rattle.mesh_file.specs.declared.servers.MeshServer.{MeshServer}
 

@@ -1,18 +1,91 @@
-//! Addresses: where clients and other servers connect.
+//! Addresses, where clients and other servers connect, and names of hosts.
 
-ghost use Rattle.std.specs.Prelude.{◌≡◌, ◌≤◌, not, nat_eq, MatchOption, IfSome, None, option_map};
+ghost use Rattle.std.specs.Prelude.{◌≡◌, false, MatchOption, ◌≤◌, not, nat_eq, IfSome, None, option_map};
+ghost use Rattle.std.specs.List.{list_all};
+ghost use Rattle.subj.specs.Names.{tokens};
+ghost use Rattle.mesh_file.specs.Hosts.{is_label_byte as label_byte, is_label as label_of_name, is_host_name as name_of_host, IsHostName, has_letter as some_letter};
 ghost use Rattle.std.specs.Str.{bytes_eq};
 ghost use Rattle.std.specs.Net.Addr.{ipv4_octets};
 ghost use Rattle.std.specs.Net.Socket.{socket_scope_id};
 ghost use Rattle.mesh_file.specs.Addresses.{IsSocket, IsNoSocket, IsNamed, IsRoute, IsNoRoute, IsHost, named_address as address_named, port_of, octets_in, segments_in, is_wildcard as wildcard, is_loopback as loopback, is_same_ip as same_ip, is_same_host as same_host, is_same_route as same_route, is_same_clients as same_clients, is_at as host_is_at, may_clash as clash};
 ghost use Rattle.mesh_file.specs.Entries.{IsNoHost};
 
-use crate::hosts::{host_name, is_host_name};
 use line_fields::read_digits;
 use std::fmt;
 use std::fmt::{Display, Formatter, Write};
 use std::net::{IpAddr, Ipv4Addr, SocketAddr};
-use subj::HostText;
+use subj::{HostText, MAX_HOST, split_token};
+
+/// The most bytes of a label of a host's name: of a part between its dots. (RFC 1035, 2.3.4.)
+pub const MAX_LABEL: usize = 63;
+
+/// Whether a label may have the byte.
+fn is_label_byte(byte: u8) -> bool
+    ensures { result ≡ label_byte byte }
+{
+    byte.is_ascii_alphanumeric() || byte == b'-'
+}
+
+/// Whether a label may have each of the bytes.
+fn are_label_bytes(label: &[u8]) -> bool
+    ensures { result ≡ list_all label_byte label.now }
+{
+    label.iter().all(|byte| is_label_byte(*byte))
+}
+
+/// Whether the bytes are a label.
+fn is_label(label: &[u8]) -> bool
+    ensures { result ≡ label_of_name label.now }
+{
+    if label.is_empty() || label.len() > MAX_LABEL {
+        return false;
+    }
+    if label[0] == b'-' || label[label.len() - 1] == b'-' {
+        return false;
+    }
+    are_label_bytes(label)
+}
+
+/// Whether all parts between the dots of a text are labels.
+fn are_labels(text: &[u8]) -> bool
+    ensures { result ≡ list_all label_of_name (tokens text.now) }
+{
+    let (label, rest) = split_token(text);
+    if !is_label(label) {
+        return false;
+    }
+    match rest {
+        None => true,
+        Some(rest) => are_labels(rest),
+    }
+}
+
+/// Whether there is a letter.
+fn has_letter(text: &[u8]) -> bool
+    ensures { result ≡ some_letter text.now }
+{
+    text.iter().any(|byte| byte.is_ascii_alphabetic())
+}
+
+/// Whether the bytes are the name of a host: 1 to [`MAX_HOST`] of them, labels of 1 to [`MAX_LABEL`] letters, digits and `-` with dots
+/// between them, none of which begins or ends with `-`. One byte is a letter, so that an IPv4 address with a slip of the pen is no
+/// name. (RFC 1123, 2.1.)
+pub(crate) fn is_host_name(text: &[u8]) -> bool
+    ensures { result ≡ name_of_host text.now }
+{
+    text.len() <= MAX_HOST && has_letter(text) && are_labels(text)
+}
+
+/// The name of a host, or None just where the text is none. Takes no memory.
+pub(crate) fn host_name(text: &str) -> Option<HostText>
+    ensures { MatchOption result (name_of_host text.now ≡ false)
+        (λ name. (name.bytes ≡ text.now) × IsHostName name.bytes) }
+{
+    if !is_host_name(text.as_bytes()) {
+        return None;
+    }
+    HostText::from(text).ok()
+}
 
 /// The most digits of a port behind a host's name.
 const PORT_DIGITS: usize = 5;

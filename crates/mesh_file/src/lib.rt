@@ -9,25 +9,20 @@
 //! ```
 //!
 //! In reading order: [`MeshFile`] (`mesh`) is what a file says, [`MeshServer`] (`servers`) what it says of one server, and [`MeshFault`]
-//! (`faults`) why a text is no such file. `tables` reads the tables of the file, `entries` the keys of a server, `keys` tells unknown keys,
-//! `addresses` and `hosts` read the texts of addresses, and `pairs` compares servers and puts them in order.
+//! (`faults`) why a text is no such file. `tables` reads the tables of the file and the keys of each server,
+//! `addresses` the texts of addresses and of hosts, and `servers` compares servers and puts them in order.
 #![tactic(auto)]
 
 mod addresses;
-mod entries;
 mod faults;
-mod hosts;
-mod keys;
 mod mesh;
-mod pairs;
 mod servers;
 mod tables;
 
-pub use addresses::{RouteAddress, RouteHost};
+pub use addresses::{MAX_LABEL, RouteAddress, RouteHost};
 pub use faults::{
     KeyText, MAX_KEY_TEXT, MeshFault, Pair, ServerFault, ServerKey, Shared, ValueFault,
 };
-pub use hosts::MAX_LABEL;
 pub use mesh::MeshFile;
 pub use servers::MeshServer;
 pub use tables::DEFAULT_SHARDS;

@@ -1,28 +1,16 @@
 -- What a call gives beside what it wrote does not matter: of two that wrote alike and ended alike, the same is said.
 use Rattle.std.proofs.Common.{◌≡◌, ℕ, List, Option, Result, Ok, Err, subst, sym}
 use Rattle.std.specs.Prelude.{IsErrAnd}
-use Rattle.script_form.specs.Form.{Script}
-use Rattle.mesh_script.specs.declared.faults.PlayFault.{PlayFault}
-use Rattle.mesh_script.specs.declared.faults.PlayFault.TheVariants as play
-use Rattle.mesh_script.specs.declared.faults.RunFault.{RunFault}
-use Rattle.mesh_script.specs.declared.faults.RunFault.TheVariants.{Refused, Read, Write, OutOfMemory}
-use Rattle.mesh_script.specs.Played.{Plays, Writes, CountsWrites}
+use Rattle.mesh_script.specs.declared.output.PlayFault.{PlayFault}
+use Rattle.mesh_script.specs.declared.output.PlayFault.TheVariants as play
+use Rattle.mesh_script.specs.declared.whole_runs.RunFault.{RunFault}
+use Rattle.mesh_script.specs.declared.whole_runs.RunFault.TheVariants.{Refused, Read, Write, OutOfMemory}
+use Rattle.mesh_script.specs.Played.{CountsWrites}
 use Rattle.mesh_script.specs.Runs.{Answers, RunsScript, CountsReads, CountsFailedWrites}
 
 -- ---- playing
 
-pub plays_alike : {T U : Type 0} (a : Result T PlayFault) (b : Result U PlayFault) (script : Script)
-    (was is : Option (List ℕ))
-    → ((text : List ℕ) → Writes a was is text → Writes b was is text)
-    → Plays script a was is
-    → Plays script b was is
-plays_alike a b script was is same plays = record {
-  text = plays.text;
-  played = plays.played;
-  written = same plays.text plays.written;
-}
-
-pub counts_alike : (T U : Type 0) (fault : PlayFault) (before after : ℕ)
+counts_alike : (T U : Type 0) (fault : PlayFault) (before after : ℕ)
     → CountsWrites {T = T} (Err fault) before after
     → CountsWrites {T = U} (Err fault) before after
 counts_alike T U play.Write before after counts = counts

@@ -6,7 +6,7 @@ use Rattle.world_law.specs.Outcomes.{Outcome}
 use Rattle.world_law.specs.State.{World}
 use Rattle.world_law.specs.Steps.{WorldStep}
 use Rattle.world_law.specs.Written.{outcome_text}
-use Rattle.mesh_script.specs.declared.faults.PlayFault.{PlayFault}
+use Rattle.mesh_script.specs.declared.output.PlayFault.{PlayFault}
 use Rattle.mesh_script.specs.Asks.{Asks, NoMore, Ask, Say, and_then}
 use Rattle.mesh_script.specs.Lines.{lines_text}
 use Rattle.mesh_script.specs.Played.{AppendsStart}

@@ -5,7 +5,7 @@ use Rattle.std.specs.Io.KnownBytes.{Appends}
 use Rattle.std.proofs.KnownBytes.{Appends-nil, Appends-trans}
 use Rattle.wire_cut.specs.Flow.{AppendsFront}
 use Rattle.mesh_script.specs.Played.{AppendsStart, Writes}
-use Rattle.mesh_script.specs.declared.faults.PlayFault.{PlayFault}
+use Rattle.mesh_script.specs.declared.output.PlayFault.{PlayFault}
 use Rattle.mesh_script.specs.Putting.{Puts, PutsOrStarts}
 
 pub puts_nothing : (old : List ℕ) (was : Option (List ℕ)) → Puts old was [] old was

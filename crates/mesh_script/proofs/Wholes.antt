@@ -8,7 +8,7 @@ use Rattle.world_law.specs.Headline.{IsCluster}
 use Rattle.world_law.specs.State.{new_world}
 use Rattle.world_law.specs.Written.{last_lines}
 use Rattle.script_form.specs.Form.{Script, is_cluster}
-use Rattle.mesh_script.specs.declared.faults.PlayFault.{PlayFault}
+use Rattle.mesh_script.specs.declared.output.PlayFault.{PlayFault}
 use Rattle.mesh_script.specs.Asks.{NoMore, steps_ask}
 use Rattle.mesh_script.specs.Lines.{lines_text}
 use Rattle.mesh_script.specs.Played.{IsPlayed, Plays, Writes, cluster_of}

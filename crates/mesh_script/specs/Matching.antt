@@ -5,10 +5,10 @@ use Rattle.subj.specs.declared.faults.NameFault.{NameFault}
 use Rattle.subj.specs.Matching.{subject_matches}
 use Rattle.subj.specs.Faults.{name_fault_number}
 use Rattle.subj.specs.Names.{pattern_fault, subject_fault}
-use Rattle.mesh_script.specs.declared.faults.MatchFault.{MatchFault}
-use Rattle.mesh_script.specs.declared.faults.MatchFault.TheVariants.{BadPattern, BadSubject, Write, OutOfMemory}
-use Rattle.mesh_script.specs.declared.faults.PlayFault.{PlayFault}
-use Rattle.mesh_script.specs.declared.faults.PlayFault.TheVariants as play
+use Rattle.mesh_script.specs.declared.whole_runs.MatchFault.{MatchFault}
+use Rattle.mesh_script.specs.declared.whole_runs.MatchFault.TheVariants.{BadPattern, BadSubject, Write, OutOfMemory}
+use Rattle.mesh_script.specs.declared.output.PlayFault.{PlayFault}
+use Rattle.mesh_script.specs.declared.output.PlayFault.TheVariants as play
 use Rattle.mesh_script.specs.Lines.{refused_text}
 use Rattle.mesh_script.specs.Played.{AppendsStart}
 

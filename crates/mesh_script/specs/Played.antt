@@ -5,8 +5,8 @@ use Rattle.world_law.specs.Echo.{EchoIsKept}
 use Rattle.world_law.specs.Headline.{Headline, Names}
 use Rattle.world_law.specs.State.{Cluster, World, new_world}
 use Rattle.script_form.specs.Form.{Script}
-use Rattle.mesh_script.specs.declared.faults.PlayFault.{PlayFault}
-use Rattle.mesh_script.specs.declared.faults.PlayFault.TheVariants.{Write, OutOfMemory}
+use Rattle.mesh_script.specs.declared.output.PlayFault.{PlayFault}
+use Rattle.mesh_script.specs.declared.output.PlayFault.TheVariants.{Write, OutOfMemory}
 use Rattle.mesh_script.specs.Asks.{NoMore, steps_ask}
 use Rattle.mesh_script.specs.Lines.{lines_text}
 use Rattle.mesh_script.specs.Told.{Said, Told, script_lines}

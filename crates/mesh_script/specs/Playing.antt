@@ -10,7 +10,7 @@ use Rattle.world_law.specs.Written.{last_lines}
 use Rattle.script_form.specs.Form.{Script}
 use Rattle.mesh_script.specs.declared.player.ScriptEvents.{ScriptEvents}
 use Rattle.mesh_script.specs.declared.player.ScriptEvents.TheVariants as asked
-use Rattle.mesh_script.specs.declared.faults.PlayFault.{PlayFault}
+use Rattle.mesh_script.specs.declared.output.PlayFault.{PlayFault}
 use Rattle.mesh_script.specs.Asks.{Asks, NoMore, Ask, work_asks, Wants, Once, Joins, Tells, Delivers}
 use Rattle.mesh_script.specs.Lines.{lines_text}
 use Rattle.mesh_script.specs.Placing.{cluster_named}

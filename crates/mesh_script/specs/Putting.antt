@@ -1,7 +1,7 @@
 -- What is put behind what stands to be written.
 use Rattle.std.specs.Prelude.{◌≡◌, ℕ, List, ◌++◌, Option, Result, Ok, Err}
 use Rattle.std.specs.Io.KnownBytes.{Appends}
-use Rattle.mesh_script.specs.declared.faults.PlayFault.{PlayFault}
+use Rattle.mesh_script.specs.declared.output.PlayFault.{PlayFault}
 use Rattle.mesh_script.specs.Played.{AppendsStart}
 
 -- this was put behind what stood to be written, and some of it was written

@@ -6,10 +6,10 @@ use Rattle.subj.specs.declared.limits.TheConstants.{SCRIPT_BYTES}
 use Rattle.script_form.specs.declared.faults.ScriptFault.{ScriptFault}
 use Rattle.script_form.specs.Faults.{script_fault_number}
 use Rattle.script_form.specs.Form.{Script, script_of}
-use Rattle.mesh_script.specs.declared.faults.PlayFault.{PlayFault}
-use Rattle.mesh_script.specs.declared.faults.PlayFault.TheVariants as play
-use Rattle.mesh_script.specs.declared.faults.RunFault.{RunFault}
-use Rattle.mesh_script.specs.declared.faults.RunFault.TheVariants.{Refused, Read, Write, OutOfMemory}
+use Rattle.mesh_script.specs.declared.output.PlayFault.{PlayFault}
+use Rattle.mesh_script.specs.declared.output.PlayFault.TheVariants as play
+use Rattle.mesh_script.specs.declared.whole_runs.RunFault.{RunFault}
+use Rattle.mesh_script.specs.declared.whole_runs.RunFault.TheVariants.{Refused, Read, Write, OutOfMemory}
 use Rattle.mesh_script.specs.Lines.{refused_text}
 use Rattle.mesh_script.specs.Played.{IsPlayedSafely, AppendsStart}
 

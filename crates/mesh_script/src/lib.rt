@@ -14,12 +14,10 @@
 //! step and makes them, `whole_runs`, which reads a script first, and `output`, which writes lines.
 #![tactic(auto)]
 
-mod faults;
 mod output;
 mod player;
 mod whole_runs;
 
-pub use faults::{MatchFault, PlayFault, RunFault};
-pub use output::match_run;
+pub use output::PlayFault;
 pub use player::play;
-pub use whole_runs::{script_run, script_world_run};
+pub use whole_runs::{MatchFault, RunFault, match_run, script_run, script_world_run};

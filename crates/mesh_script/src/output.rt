@@ -1,6 +1,6 @@
-//! What is to be written, gathered: the outcomes of events, placements and the last line; and whether a pattern matches a subject.
+//! What is to be written, gathered: the outcomes of events, placements and the last line.
 
-ghost use Rattle.std.specs.Prelude.{◌≡◌, ◌++◌, [], codes, decimal, OnOk, ◌+◌, ◌∷◌, map, length, IfOk, None};
+ghost use Rattle.std.specs.Prelude.{◌≡◌, ◌++◌, [], codes, decimal, OnOk, ◌+◌, ◌∷◌, map, length, IfOk};
 ghost use Rattle.mesh_script.specs.Asks.{settled_line, delivered_line};
 ghost use Rattle.mesh_script.specs.Lines.{refused_text, end_line};
 ghost use Rattle.mesh_script.specs.Putting.{PutsOrStarts};
@@ -11,11 +11,7 @@ ghost use Rattle.node_core.specs.InCode.{answer_of};
 ghost use Rattle.std.specs.List.{flat_map};
 ghost use Rattle.world_law.specs.Changes.{placement_of};
 ghost use Rattle.mesh_script.specs.Placing.{cluster_named, placement_in, HasPut, placements_text};
-ghost use Rattle.subj.specs.Matching.{subject_matches};
-ghost use Rattle.subj.specs.Names.{pattern_fault, subject_fault};
-ghost use Rattle.mesh_script.specs.Matching.{Matches, CountsMatchWrites};
 
-use crate::faults::{MatchFault, PlayFault};
 use cluster_world::{Life, LifeId, Outcome, Placements};
 use itoa::Buffer;
 use node_core::Answer;
@@ -24,8 +20,42 @@ use route_session::SessionId;
 use shard_core::Placed;
 use std::alloc::{AllocError, Global};
 use std::marker::Model;
-use subj::{ConnId, NodeId, Pattern, PubId, READ_BYTES, SubId, Subject};
-use wire_cut::Sink;
+use subj::{ConnId, NodeId, PubId, READ_BYTES, SubId};
+use thiserror::Error;
+use wire_cut::{Sink, WriteFailed};
+
+/// Why playing a script broke off. What was written by then is a beginning of its text.
+#[derive(Clone, Copy, Debug, Error)]
+pub enum PlayFault {
+    /// The writer failed.
+    #[error("writing failed")]
+    Write,
+    /// The allocator gave no memory.
+    #[error("out of memory")]
+    OutOfMemory,
+}
+
+impl From<AllocError> for PlayFault {
+    ghost use Rattle.std.specs.Prelude.{◌≡◌};
+    ghost use Rattle.mesh_script.specs.declared.output.PlayFault.TheVariants.{OutOfMemory};
+
+    ghost from_gives = { λ _ fault. fault ≡ OutOfMemory };
+
+    fn from(_: AllocError) -> PlayFault {
+        PlayFault::OutOfMemory
+    }
+}
+
+impl From<WriteFailed> for PlayFault {
+    ghost use Rattle.std.specs.Prelude.{◌≡◌};
+    ghost use Rattle.mesh_script.specs.declared.output.PlayFault.TheVariants.{Write};
+
+    ghost from_gives = { λ _ fault. fault ≡ Write };
+
+    fn from(_: WriteFailed) -> PlayFault {
+        PlayFault::Write
+    }
+}
 
 /// Bytes that stand to be written. They are written once there are [`READ_BYTES`] of them, and at the end.
 ///
@@ -470,50 +500,4 @@ pub(crate) fn put_end(output: &mut Output, events: u64, placements: u64) -> Resu
     output.put_with(b"end ", events)?;
     output.put_with(b" ", placements)?;
     output.put(b"\n")
-}
-
-/// Whether the pattern matches the subject. Required: both are such.
-fn is_match(alloc: Global, pattern: &[u8], subject: &[u8]) -> Result<bool, AllocError>
-    requires pattern { pattern_fault pattern.now ≡ None }
-    requires subject { subject_fault subject.now ≡ None }
-    ensures { IfOk result (λ matches. matches ≡ subject_matches pattern.now subject.now) }
-{
-    let pattern = match Pattern::read(alloc, pattern) {
-        Ok(pattern) => pattern,
-        // required: the bytes are a pattern
-        Err(failure) => return Err(failure.want_of_memory()),
-    };
-    match Subject::read(alloc, subject) {
-        Ok(subject) => Ok(pattern.matches(&subject)),
-        // required: the bytes are a subject
-        Err(failure) => Err(failure.want_of_memory()),
-    }
-}
-
-/// Writes one line: whether the pattern matches the subject, as `true` or `false`; or, where the pattern or else the
-/// subject is none, which of them is refused, and by which number. (Profile.)
-pub fn match_run<S: Sink>(
-    alloc: Global,
-    pattern: &[u8],
-    subject: &[u8],
-    sink: &mut S,
-) -> Result<(), MatchFault>
-    ensures text { Matches result pattern.now subject.now (S.written sink.old)
-        (S.written sink.new) }
-    ensures failures { CountsMatchWrites result (S.failures sink.old) (S.failures sink.new) }
-{
-    if let Some(fault) = Pattern::fault(pattern) {
-        write_refusal(alloc, b"pattern", fault.number(), sink)?;
-        return Err(MatchFault::BadPattern(fault));
-    }
-    if let Some(fault) = Subject::fault(subject) {
-        write_refusal(alloc, b"subject", fault.number(), sink)?;
-        return Err(MatchFault::BadSubject(fault));
-    }
-    if is_match(alloc, pattern, subject)? {
-        write_line(alloc, b"true", sink)?;
-    } else {
-        write_line(alloc, b"false", sink)?;
-    }
-    Ok(())
 }

@@ -8,15 +8,16 @@ ghost use Rattle.std.specs.List.{position};
 ghost use Rattle.std.specs.Str.{bytes_eq};
 ghost use Rattle.node_core.specs.InCode.{own_event_of};
 ghost use Rattle.subj.specs.Servers.{place_in};
-ghost use Rattle.mesh_script.specs.Asks.{once as asked_once, Once, Tells, Delivers, act_wants, asks_for, session_in as session_told, step_wants, dial_asks, accept_asks, info_asks, connect_asks, next_frame as frame_after, settled_asks, deliver_asks, work_asks, steps_ask};
+ghost use Rattle.mesh_script.specs.Asks.{once as asked_once, Once, Tells, Delivers, act_wants, asks_for, session_in as session_told, step_wants, dial_asks, accept_asks, info_asks, next_frame as frame_after, settled_asks, deliver_asks, work_asks, steps_ask};
 ghost use Rattle.mesh_script.specs.Playing.{wants_of, Makes, MakesBehind, AsksOne, Finishes, first_standing, GoesOn, ArePlayedSafely};
 ghost use Rattle.cluster_world.specs.InCode.{event_of, outcome_of};
 ghost use Rattle.settled_order.specs.Counted.{placed_by as placed_of};
 ghost use Rattle.settled_order.specs.Owed.{delivery as work_behind};
 ghost use Rattle.mesh_script.specs.Played.{CountsWrites, Plays, cluster_of};
 
-use crate::faults::PlayFault;
-use crate::output::{Known, Output, put_delivered, put_end, put_line, put_placements, put_settled};
+use crate::output::{
+    Known, Output, PlayFault, put_delivered, put_end, put_line, put_placements, put_settled,
+};
 use claim_race::Race;
 use cluster_world::{Event, Outcome, World};
 use node_core::{Answer, ConnEvent, OwnEvent, ShardWork};
@@ -110,13 +111,6 @@ fn unsubscribe(
 {
     let sid = sid.try_clone(alloc)?;
     Ok(of_conn(node, conn, ConnEvent::Unsubscribe { sid, max }))
-}
-
-fn set_headers(node: usize, conn: ConnId, on: bool) -> ScriptEvents
-    ensures { wants_of result
-        ≡ Once (of_world.At node (of_node.OfConn conn (for_conn.SetHeaders on))) }
-{
-    of_conn(node, conn, ConnEvent::SetHeaders { on })
 }
 
 /// A copy that shares the message.
@@ -246,7 +240,7 @@ fn asked_by(
         Act::Attach { shard } => Ok(at_shard(node, *shard, ShardWork::Attach)),
         Act::Sub { conn, key, sid } => subscribe(alloc, node, *conn, key, sid),
         Act::Unsub { conn, sid, max } => unsubscribe(alloc, node, *conn, sid, *max),
-        Act::SetHeaders { conn, on } => Ok(set_headers(node, *conn, *on)),
+        Act::SetHeaders { conn, on } => Ok(of_conn(node, *conn, ConnEvent::SetHeaders { on: *on })),
         Act::Detach { conn } => Ok(of_conn(node, *conn, ConnEvent::Detach)),
         Act::Publish {
             conn,
@@ -333,19 +327,6 @@ fn placed_by(outcome: &Outcome) -> u64
 }
 
 impl<T: SubTable, R: Race> Player<T, R> {
-    /// No event was made in the cluster.
-    fn new(alloc: Global, world: World<T, R>) -> Player<T, R>
-        ensures { result
-            ≡ record { cluster = world.cluster; world = world.world; number = 0; text = [] } }
-    {
-        Player {
-            alloc,
-            world,
-            number: 0,
-            output: Output::new(alloc),
-        }
-    }
-
     /// Makes an event, and puts its line.
     fn ask<S: Sink>(&mut self, event: &Event, sink: &mut S) -> Result<Outcome, PlayFault>
         ensures asks { AsksOne result (event_of event.now) self.old (S.written sink.old) self.new
@@ -388,25 +369,6 @@ impl<T: SubTable, R: Race> Player<T, R> {
         self.world.next_frame()
     }
 
-    /// The side that accepted is handed the `CONNECT`.
-    fn connect<S: Sink>(
-        &mut self,
-        b: SessionEnd,
-        frame: usize,
-        sink: &mut S,
-    ) -> Result<(), PlayFault>
-        ensures makes { Makes result self.old (S.written sink.old)
-            (connect_asks b.node b.session frame) self.new (S.written sink.new) }
-        ensures failures { CountsWrites result (S.failures sink.old) (S.failures sink.new) }
-    {
-        let event = Event::OnConnect {
-            node: b.node,
-            session: b.session,
-            frame,
-        };
-        self.once(event, sink)
-    }
-
     /// The side that dialed is handed the `INFO`; where that is done, the other one is handed the `CONNECT` that it
     /// sends.
     fn inform<S: Sink>(
@@ -430,7 +392,12 @@ impl<T: SubTable, R: Race> Player<T, R> {
         if outcome.fault().is_some() {
             return Ok(());
         }
-        self.connect(b, next, sink)
+        let connect = Event::OnConnect {
+            node: b.node,
+            session: b.session,
+            frame: next,
+        };
+        self.once(connect, sink)
     }
 
     /// The server at place `b` accepts; where that is done, the side that dialed is handed the `INFO` that it sends.
@@ -644,7 +611,12 @@ fn new_player<T: SubTable, R: Race>(
         // the servers of a script are a cluster
         unreachable!()
     };
-    Ok(Player::new(alloc, world))
+    Ok(Player {
+        alloc,
+        world,
+        number: 0,
+        output: Output::new(alloc),
+    })
 }
 
 /// Makes the events of all steps.
@@ -664,8 +636,14 @@ fn make_all<T: SubTable, R: Race, S: Sink>(
     Ok(())
 }
 
-/// Plays a script, as [`play`] does, and gives the cluster behind it.
-pub(crate) fn play_to_end<T: SubTable, R: Race, S: Sink>(
+/// Plays a script: makes its events in turn in a cluster in which all servers are down, over any table of
+/// subscriptions and any race, and writes a line for each; where it asks whether the cluster is settled, and behind each delivery, a line that
+/// is no event's; then one for each message that was placed, and a last line. (Profile.)
+///
+/// What is written is the text of a run of these events in the exact cluster; after a failed write, and where memory is
+/// wanting, a beginning of such a text. The headline holds of the lists that it is written of, as
+/// [`World::keeps_headline`] says. Gives the cluster behind the events.
+pub fn play<T: SubTable, R: Race, S: Sink>(
     alloc: Global,
     script: &Script,
     sink: &mut S,
@@ -680,25 +658,4 @@ pub(crate) fn play_to_end<T: SubTable, R: Race, S: Sink>(
     make_all(&mut player, script, sink)?;
     player.finish(script.names(), sink)?;
     Ok(player.world)
-}
-
-/// Plays a script: makes its events in turn in a cluster in which all servers are down, over any table of
-/// subscriptions and any race, and writes a line for each; where it asks whether the cluster is settled, and behind each delivery, a line that
-/// is no event's; then one for each message that was placed, and a last line. (Profile.)
-///
-/// What is written is the text of a run of these events in the exact cluster; after a failed write, and where memory is
-/// wanting, a beginning of such a text. The headline holds of the lists that it is written of, as
-/// [`World::keeps_headline`] says.
-pub fn play<T: SubTable, R: Race, S: Sink>(
-    alloc: Global,
-    script: &Script,
-    sink: &mut S,
-) -> Result<(), PlayFault>
-    ensures text { Plays script.now result (S.written sink.old) (S.written sink.new) }
-    ensures failures { CountsWrites result (S.failures sink.old) (S.failures sink.new) }
-{
-    match play_to_end::<T, R, S>(alloc, script, sink) {
-        Ok(_world) => Ok(()),
-        Err(fault) => Err(fault),
-    }
 }

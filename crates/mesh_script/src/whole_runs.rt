@@ -1,19 +1,81 @@
-//! Scripts are read to their end, and played.
+//! Scripts are read to their end, and played; and patterns are matched.
 
-ghost use Rattle.std.specs.Prelude.{◌≡◌, IfOk, length, OnErr};
+ghost use Rattle.std.specs.Prelude.{◌≡◌, IfOk, length, OnErr, None};
 ghost use Rattle.wire_cut.specs.Flow.{Gains};
 ghost use Rattle.mesh_script.specs.Runs.{RunsScript, CountsReads, CountsFailedWrites, HasRead, HasReadSome, ReadsAway, CountsFailedReads, broken_by};
+ghost use Rattle.subj.specs.Matching.{subject_matches};
+ghost use Rattle.subj.specs.Names.{pattern_fault, subject_fault};
+ghost use Rattle.mesh_script.specs.Matching.{Matches, CountsMatchWrites};
 
-use crate::faults::{PlayFault, RunFault};
-use crate::output::write_refusal;
-use crate::player::play_to_end;
+use crate::output::{PlayFault, write_line, write_refusal};
+use crate::player::play;
 use claim_race::Race;
 use cluster_world::World;
-use script_form::Script;
-use std::alloc::Global;
+use script_form::{Script, ScriptError};
+use std::alloc::{AllocError, Global};
 use sub_table::SubTable;
-use subj::{Failure, SCRIPT_BYTES};
+use subj::{Failure, NameFault, Pattern, SCRIPT_BYTES, Subject};
+use thiserror::Error;
 use wire_cut::{Sink, Source};
+
+/// Why a script was not read and played to its end.
+#[derive(Clone, Copy, Debug, Error)]
+pub enum RunFault {
+    /// The bytes are no script. Its refusal was written.
+    #[error("script refused: {0}")]
+    Refused(ScriptError),
+    /// The reader failed. Nothing was written.
+    #[error("reading failed")]
+    Read,
+    /// The writer failed. What was written is a beginning of the text.
+    #[error("writing failed")]
+    Write,
+    /// The allocator gave no memory. What was written is a beginning of the text.
+    #[error("out of memory")]
+    OutOfMemory,
+}
+
+/// Why it was not told whether a pattern matches a subject.
+#[derive(Clone, Copy, Debug, Error)]
+pub enum MatchFault {
+    /// The pattern is none. Its refusal was written.
+    #[error("pattern refused: {0}")]
+    BadPattern(NameFault),
+    /// The subject is none. Its refusal was written.
+    #[error("subject refused: {0}")]
+    BadSubject(NameFault),
+    /// The writer failed.
+    #[error("writing failed")]
+    Write,
+    /// The allocator gave no memory.
+    #[error("out of memory")]
+    OutOfMemory,
+}
+
+impl From<AllocError> for MatchFault {
+    ghost use Rattle.std.specs.Prelude.{◌≡◌};
+    ghost use Rattle.mesh_script.specs.declared.whole_runs.MatchFault.TheVariants.{OutOfMemory};
+
+    ghost from_gives = { λ _ fault. fault ≡ OutOfMemory };
+
+    fn from(_: AllocError) -> MatchFault {
+        MatchFault::OutOfMemory
+    }
+}
+
+impl From<PlayFault> for MatchFault {
+    ghost use Rattle.std.specs.Prelude.{◌≡◌};
+    ghost use Rattle.mesh_script.specs.Matching.{unmatched_by};
+
+    ghost from_gives = { λ fault match_fault. match_fault ≡ unmatched_by fault };
+
+    fn from(fault: PlayFault) -> MatchFault {
+        match fault {
+            PlayFault::Write => MatchFault::Write,
+            PlayFault::OutOfMemory => MatchFault::OutOfMemory,
+        }
+    }
+}
 
 /// How many bytes are read at once at most.
 const CHUNK: usize = 4_096;
@@ -81,7 +143,7 @@ pub fn script_world_run<T: SubTable, R: Race, I: Source, O: Sink>(
 {
     let bytes = read_all(alloc, source)?;
     match Script::read(alloc, &bytes) {
-        Ok(script) => match play_to_end::<T, R, O>(alloc, &script, sink) {
+        Ok(script) => match play::<T, R, O>(alloc, &script, sink) {
             Ok(world) => Ok(world),
             Err(fault) => Err(run_fault(fault)),
         },
@@ -111,4 +173,50 @@ pub fn script_run<T: SubTable, R: Race, I: Source, O: Sink>(
         Ok(_world) => Ok(()),
         Err(fault) => Err(fault),
     }
+}
+
+/// Whether the pattern matches the subject. Required: both are such.
+fn is_match(alloc: Global, pattern: &[u8], subject: &[u8]) -> Result<bool, AllocError>
+    requires pattern { pattern_fault pattern.now ≡ None }
+    requires subject { subject_fault subject.now ≡ None }
+    ensures { IfOk result (λ matches. matches ≡ subject_matches pattern.now subject.now) }
+{
+    let pattern = match Pattern::read(alloc, pattern) {
+        Ok(pattern) => pattern,
+        // required: the bytes are a pattern
+        Err(failure) => return Err(failure.want_of_memory()),
+    };
+    match Subject::read(alloc, subject) {
+        Ok(subject) => Ok(pattern.matches(&subject)),
+        // required: the bytes are a subject
+        Err(failure) => Err(failure.want_of_memory()),
+    }
+}
+
+/// Writes one line: whether the pattern matches the subject, as `true` or `false`; or, where the pattern or else the
+/// subject is none, which of them is refused, and by which number. (Profile.)
+pub fn match_run<S: Sink>(
+    alloc: Global,
+    pattern: &[u8],
+    subject: &[u8],
+    sink: &mut S,
+) -> Result<(), MatchFault>
+    ensures text { Matches result pattern.now subject.now (S.written sink.old)
+        (S.written sink.new) }
+    ensures failures { CountsMatchWrites result (S.failures sink.old) (S.failures sink.new) }
+{
+    if let Some(fault) = Pattern::fault(pattern) {
+        write_refusal(alloc, b"pattern", fault.number(), sink)?;
+        return Err(MatchFault::BadPattern(fault));
+    }
+    if let Some(fault) = Subject::fault(subject) {
+        write_refusal(alloc, b"subject", fault.number(), sink)?;
+        return Err(MatchFault::BadSubject(fault));
+    }
+    if is_match(alloc, pattern, subject)? {
+        write_line(alloc, b"true", sink)?;
+    } else {
+        write_line(alloc, b"false", sink)?;
+    }
+    Ok(())
 }

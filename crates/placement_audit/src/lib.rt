@@ -10,19 +10,14 @@
 //! connection took them), for a subscription that matches and was open at that step. It reads the lists alone, and shares no code with
 //! the cluster that made them.
 //!
-//! In reading order: `placements` is a list of placements, one by one; `due` what a subscription is due of a publication; `keys` names
-//! as keys in order, `named` publications and subscriptions by their names, and `seen` what was placed so far; `audits` goes
-//! over the list, and `worlds` says what it tells of a run of the exact cluster.
+//! In reading order: `placements` is a list of placements, one by one; `keys` names as keys in order; `audits` has what a subscription is due
+//! of a publication, publications and subscriptions by their names, and what was placed so far, goes over the list, and says what it tells
+//! of a run of the exact cluster.
 #![tactic(auto)]
 
 mod audits;
-mod due;
 mod keys;
-mod named;
 mod placements;
-mod seen;
-mod worlds;
 
-pub use audits::audit;
+pub use audits::{audit, runs_pass_the_audit, worlds_pass_the_audit};
 pub use placements::{Placement, each_placement};
-pub use worlds::{runs_pass_the_audit, worlds_pass_the_audit};

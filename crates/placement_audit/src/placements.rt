@@ -1,6 +1,6 @@
 //! Placements, one by one.
 
-ghost use Rattle.std.specs.Prelude.{◌≡◌, ◌++◌, map, option_map, option_to_list, IfOk, OnOk};
+ghost use Rattle.std.specs.Prelude.{◌≡◌, ◌++◌, map, IfOk, OnOk};
 ghost use Rattle.std.specs.List.{flat_map};
 ghost use Rattle.world_law.specs.Changes.{placement_of as of_entry};
 ghost use Rattle.cluster_world.specs.InCode.{placements_in, placing_server};
@@ -31,28 +31,29 @@ pub struct Placement {
     pub headers: bool,
 }
 
-/// What an entry places: a message, or nothing where it is an answer or a last line.
-fn placement_in(
+/// Puts what an entry places behind the others: a message, or nothing where it is an answer or a last line.
+fn push_placed(
     alloc: Global,
+    placements: &mut Vec<Placement>,
     put: &Placements,
     placed: &Placed,
-) -> Result<Option<Placement>, AllocError>
-    ensures { IfOk result (λ found.
-        option_to_list (option_map placement_of found)
-        ≡ of_entry (placing_server put.now.node put.now.inc) put.now.step placed.now.conn
+) -> Result<(), AllocError>
+    ensures { OnOk result (map placement_of placements.new.items
+        ≡ map placement_of placements.old.items
+        ++ of_entry (placing_server put.now.node put.now.inc) put.now.step placed.now.conn
         placed.now.headers placed.now.entry.bytes placed.now.entry.tag) }
 {
     let Tag::Msg { id, sub, mode } = placed.entry.tag() else {
-        return Ok(None);
+        return Ok(());
     };
-    let mode = mode.try_clone(alloc)?;
-    let bytes = placed.entry.bytes(alloc)?;
     let life = LifeId {
         node: put.node,
         inc: put.inc,
         sub: *sub,
     };
-    Ok(Some(Placement {
+    let mode = mode.try_clone(alloc)?;
+    let bytes = placed.entry.bytes(alloc)?;
+    placements.push(Placement {
         step: put.step,
         life,
         conn: placed.conn,
@@ -60,21 +61,7 @@ fn placement_in(
         mode,
         bytes,
         headers: placed.headers,
-    }))
-}
-
-/// Puts the placement behind the others, where there is one.
-fn push_placement(
-    placements: &mut Vec<Placement>,
-    placement: Option<Placement>,
-) -> Result<(), AllocError>
-    ensures { OnOk result (map placement_of placements.new.items
-        ≡ map placement_of placements.old.items
-        ++ option_to_list (option_map placement_of placement)) }
-{
-    if let Some(placement) = placement {
-        placements.push(placement)?;
-    }
+    })?;
     Ok(())
 }
 
@@ -88,8 +75,7 @@ fn push_step(
         ≡ map placement_of placements.old.items ++ placements_in put.now) }
 {
     for placed in &put.entries {
-        let placement = placement_in(alloc, put, placed)?;
-        push_placement(placements, placement)?;
+        push_placed(alloc, placements, put, placed)?;
     }
     Ok(())
 }

@@ -5,8 +5,8 @@ use Rattle.log.specs.declared.level.LevelFilter.{LevelFilter}
 use Rattle.subj.specs.Numbers.{incarnation_of}
 use Rattle.router_command.specs.Levels.{level_named}
 use Rattle.router_command.specs.Refusals.{level_fault, value_fault}
-use Rattle.router_command.specs.declared.faults.OptionFault.TheVariants.{BadValue, NoLevel}
-use Rattle.router_command.specs.declared.faults.OptionName.TheVariants.{Inc}
+use Rattle.router_command.specs.declared.options.OptionFault.TheVariants.{BadValue, NoLevel}
+use Rattle.router_command.specs.declared.options.OptionName.TheVariants.{Inc}
 
 pub inc_passes : (number inc : ℕ) → Some inc ≡ incarnation_of number → None ≡ value_fault Inc number
 unfolding value_fault

@@ -7,7 +7,7 @@ use Rattle.clap.specs.Words.{Row, Text, first_of, one_of, subcommand_of}
 use Rattle.router_command.specs.Line.{greatest_number, router}
 use Rattle.router_command.specs.declared.command.Command.{Command}
 use Rattle.router_command.specs.declared.command.Command.TheVariants.{Pipe, Match, Script, Audit, Serve, Drain, Node, Check}
-use Rattle.router_command.specs.declared.node_options.NodeGiven.{NodeGiven}
+use Rattle.router_command.specs.declared.options.NodeGiven.{NodeGiven}
 use Rattle.router_command.specs.declared.options.Given.{Given}
 
 -- by its word behind the program's name

@@ -2,11 +2,11 @@
 use Rattle.std.specs.Prelude.{◌≡◌, ℕ, List, length, ◌+◌, ◌-◌, ◌*◌, ◌^◌, ◌≤◌, Some}
 use Rattle.subj.specs.declared.limits.TheConstants.{MAX_INCARNATION, MAX_NODES, MAX_SHARDS}
 use Rattle.router_command.specs.Levels.{level_named}
-use Rattle.router_command.specs.declared.faults.TheConstants.{MOST_DRAIN_SECONDS, MOST_PATH_BYTES}
-use Rattle.router_command.specs.declared.faults.OptionName.{OptionName}
-use Rattle.router_command.specs.declared.faults.OptionName.TheVariants.{Nodes, Port, Shards, Inc, StopAfter, LeastInc, DrainSeconds}
-use Rattle.router_command.specs.declared.node_options.NodeGiven.{NodeGiven}
-use Rattle.router_command.specs.declared.node_options.NodeOptions.{NodeOptions}
+use Rattle.router_command.specs.declared.options.TheConstants.{MOST_DRAIN_SECONDS, MOST_PATH_BYTES}
+use Rattle.router_command.specs.declared.options.OptionName.{OptionName}
+use Rattle.router_command.specs.declared.options.OptionName.TheVariants.{Nodes, Port, Shards, Inc, StopAfter, LeastInc, DrainSeconds}
+use Rattle.router_command.specs.declared.options.NodeGiven.{NodeGiven}
+use Rattle.router_command.specs.declared.options.NodeOptions.{NodeOptions}
 use Rattle.router_command.specs.declared.options.Given.{Given}
 use Rattle.router_command.specs.declared.options.Options.{Options}
 

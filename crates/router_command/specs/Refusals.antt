@@ -5,12 +5,12 @@ use Rattle.std.specs.Option.{option_or}
 use Rattle.subj.specs.Names.{node_name_fault}
 use Rattle.router_command.specs.Levels.{level_named}
 use Rattle.router_command.specs.Ranges.{range_of}
-use Rattle.router_command.specs.declared.faults.TheConstants.{MOST_PATH_BYTES}
-use Rattle.router_command.specs.declared.faults.OptionFault.{OptionFault}
-use Rattle.router_command.specs.declared.faults.OptionFault.TheVariants.{BadValue, TooManyPorts, NoLevel, BadPath, BadName}
-use Rattle.router_command.specs.declared.faults.OptionName.{OptionName}
-use Rattle.router_command.specs.declared.faults.OptionName.TheVariants.{Nodes, Port, Shards, Inc, StopAfter, LeastInc, DrainSeconds}
-use Rattle.router_command.specs.declared.node_options.NodeGiven.{NodeGiven}
+use Rattle.router_command.specs.declared.options.TheConstants.{MOST_PATH_BYTES}
+use Rattle.router_command.specs.declared.options.OptionFault.{OptionFault}
+use Rattle.router_command.specs.declared.options.OptionFault.TheVariants.{BadValue, TooManyPorts, NoLevel, BadPath, BadName}
+use Rattle.router_command.specs.declared.options.OptionName.{OptionName}
+use Rattle.router_command.specs.declared.options.OptionName.TheVariants.{Nodes, Port, Shards, Inc, StopAfter, LeastInc, DrainSeconds}
+use Rattle.router_command.specs.declared.options.NodeGiven.{NodeGiven}
 use Rattle.router_command.specs.declared.options.Given.{Given}
 
 -- the value of the option is out of its range

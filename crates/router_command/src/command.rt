@@ -6,8 +6,7 @@ ghost use Rattle.clap.specs.Words.{App, FailsBy, Rule, fault_of, found_of, kind_
 ghost use Rattle.router_command.specs.Command.{AreNodeOptions, AreOptions, AskFor, HasNodeOptions, HasOptions, IsWhole, Names};
 ghost use Rattle.router_command.specs.Line.{HasRule, IsLine, check_command, control_rule, drain_command, level_rule, match_command, node_command, number_rule, program, required_rule, router, script_command, seconds_rule, serve_command, text_rule, tools, with_running, with_value};
 
-use crate::node_options::NodeGiven;
-use crate::options::Given;
+use crate::options::{Given, NodeGiven};
 use clap::builder::ValueParser;
 use clap::error::ErrorKind;
 use clap::{Arg, ArgAction, ArgMatches, Error};

@@ -9,16 +9,15 @@
 //! }
 //! ```
 //!
-//! In reading order: `command` is what the words ask for, `options` what a mesh is told, `node_options` what one server of a mesh is told, and
-//! `faults` why the options are none.
+//! In reading order: `command` is what the words ask for, and `options` what a mesh and one server of a mesh are told, or why the options are
+//! none.
 #![tactic(auto)]
 
 mod command;
-mod faults;
-mod node_options;
 mod options;
 
 pub use command::{Command, command_of};
-pub use faults::{MOST_DRAIN_SECONDS, MOST_PATH_BYTES, OptionFault, OptionName};
-pub use node_options::{NodeGiven, NodeOptions};
-pub use options::{Given, Options};
+pub use options::{
+    Given, MOST_DRAIN_SECONDS, MOST_PATH_BYTES, NodeGiven, NodeOptions, OptionFault, OptionName,
+    Options,
+};

@@ -1,14 +1,102 @@
-//! What the command line says of a mesh.
+//! What the command line says of a mesh, and of one server of a mesh.
 
 ghost use Rattle.std.specs.Prelude.{◌≡◌, ◌≤◌, ◌<◌, ◌+◌, ◌*◌, IfOk, IfSome, Some, option_and_then};
+ghost use Rattle.router_command.specs.Ranges.{range_of, AreNumbers, AreWithin, IsPath, AreNodeValues, IsDrainTime};
 ghost use Rattle.std.specs.Result.{result_err};
 ghost use Rattle.router_command.specs.Levels.{level_named};
-ghost use Rattle.router_command.specs.Ranges.{AreNumbers, AreWithin, IsPath, range_of};
-ghost use Rattle.router_command.specs.Refusals.{given_fault, path_fault, ports_fault, value_fault};
+ghost use Rattle.router_command.specs.Refusals.{given_fault, path_fault, ports_fault, value_fault, name_fault, node_fault};
 
-use crate::faults::{MOST_PATH_BYTES, OptionFault, OptionName};
 use log::LevelFilter;
-use subj::Incarnation;
+use std::fmt;
+use std::fmt::{Display, Formatter, Write};
+use subj::{Incarnation, MAX_INCARNATION, MAX_NODE_NAME, MAX_NODES, MAX_SHARDS, NodeId};
+
+/// The most seconds that a drain may take.
+pub const MOST_DRAIN_SECONDS: u64 = 3_600;
+
+/// The most bytes of the path of a socket: the system has room for one more, which ends it.
+pub const MOST_PATH_BYTES: usize = 107;
+
+/// An option of the command line.
+#[derive(Clone, Copy)]
+pub enum OptionName {
+    Nodes,
+    Port,
+    Shards,
+    Inc,
+    StopAfter,
+    LeastInc,
+    DrainSeconds,
+}
+
+impl OptionName {
+    /// How it is spelt.
+    pub fn text(self) -> &'static str {
+        match self {
+            OptionName::Nodes => "--nodes",
+            OptionName::Port => "--port",
+            OptionName::Shards => "--shards",
+            OptionName::Inc => "--inc",
+            OptionName::StopAfter => "--stop-after",
+            OptionName::LeastInc => "--least-inc",
+            OptionName::DrainSeconds => "--drain-seconds",
+        }
+    }
+
+    /// The least value that it takes, and the greatest.
+    pub fn range(self) -> (u64, u64)
+        ensures { result ≡ range_of self }
+    {
+        let most = match self {
+            OptionName::Nodes => MAX_NODES,
+            OptionName::Port => u16::MAX as u64,
+            OptionName::Shards => MAX_SHARDS,
+            OptionName::Inc | OptionName::LeastInc => MAX_INCARNATION,
+            OptionName::StopAfter => u64::MAX,
+            OptionName::DrainSeconds => MOST_DRAIN_SECONDS,
+        };
+        (1, most)
+    }
+}
+
+/// Why the options are none. (Profile.)
+#[derive(Clone, Copy)]
+pub enum OptionFault {
+    /// The value of the option is not in its range.
+    BadValue(OptionName),
+    /// The last port would be above the greatest one.
+    TooManyPorts,
+    /// The text is no level of what standard error tells.
+    NoLevel,
+    /// The path of the socket is empty, or has more than [`MOST_PATH_BYTES`].
+    BadPath,
+    /// The text is no name of a server.
+    BadName,
+}
+
+impl Display for OptionFault {
+    fn fmt<W: Write>(&self, f: &mut Formatter<W>) -> fmt::Result {
+        match self {
+            OptionFault::BadValue(name) => {
+                let (least, most) = name.range();
+                write!(f, "{} takes a number from {least} to {most}", name.text())
+            }
+            OptionFault::TooManyPorts => write!(
+                f,
+                "the last port, that of --port and 2 * --nodes - 1 more, is above {}",
+                u16::MAX
+            ),
+            OptionFault::NoLevel => f.write_str("--log-level takes error, warn, info or debug"),
+            OptionFault::BadPath => {
+                write!(f, "--control takes a path of 1 to {MOST_PATH_BYTES} bytes")
+            }
+            OptionFault::BadName => write!(
+                f,
+                "NAME takes a name of 1 to {MAX_NODE_NAME} ASCII letters, digits, - and _"
+            ),
+        }
+    }
+}
 
 /// What the command line says of a mesh: each number and text as it was given.
 #[derive(Clone, Copy)]
@@ -167,5 +255,88 @@ impl<'a> Options<'a> {
         ensures { result ≡ self.now.port + self.now.nodes + place }
     {
         self.port + self.nodes + place
+    }
+}
+
+/// What the command line says of one server of a mesh: each text and number as it was given.
+#[derive(Clone, Copy)]
+pub struct NodeGiven<'a> {
+    pub name: &'a str,
+    pub mesh: &'a str,
+    pub state: &'a str,
+    pub least_inc: Option<u64>,
+    pub log_level: &'a str,
+    pub drain_seconds: u64,
+    pub control: Option<&'a str>,
+}
+
+/// What one server of a mesh is told: its name, the path of the file that describes the mesh, the
+/// path of the folder that keeps its incarnation, a first incarnation, where there is one, which
+/// events standard error tells, how many seconds a drain may take, 1 to
+/// [`MOST_DRAIN_SECONDS`](crate::MOST_DRAIN_SECONDS), and at which path it is told to drain, where
+/// it is. (Profile.)
+#[derive(Clone, Copy)]
+pub struct NodeOptions<'a> {
+    pub name: NodeId,
+    pub mesh: &'a str,
+    pub state: &'a str,
+    pub least_inc: Option<Incarnation>,
+    pub log_level: LevelFilter,
+    pub drain_seconds: u64,
+    pub control: Option<&'a str>,
+}
+
+/// The name of a server that a text is.
+#[tactic(auto, unfolding(crate::specs::Refusals::name_fault))]
+fn name_read(text: &str) -> Result<NodeId, OptionFault>
+    ensures same { IfOk result (λ name. name ≡ text.now) }
+    ensures refused { result_err result ≡ name_fault text.now }
+{
+    match NodeId::read(text.as_bytes()) {
+        Ok(name) => Ok(name),
+        Err(_) => Err(OptionFault::BadName),
+    }
+}
+
+/// The first incarnation of this number, where there is one: refused where it is out of its range.
+#[tactic(auto, unfolding(crate::specs::Refusals::value_fault))]
+fn least_inc_within(number: Option<u64>) -> Result<Option<Incarnation>, OptionFault>
+    ensures same { IfOk result (λ least_inc. least_inc ≡ number) }
+    ensures refused { result_err result ≡ option_and_then (value_fault OptionName.LeastInc) number }
+{
+    let Some(number) = number else {
+        return Ok(None);
+    };
+    match Incarnation::new(number) {
+        Some(inc) => Ok(Some(inc)),
+        None => Err(OptionFault::BadValue(OptionName::LeastInc)),
+    }
+}
+
+impl<'a> NodeOptions<'a> {
+    /// The options of these texts and numbers. Refused where the name is none of a server, then by
+    /// the first number that is out of its range, in the order of [`OptionName`], then where the
+    /// text names no level, and then where the path of the socket is empty or too long. (Profile.)
+    pub fn new(given: NodeGiven<'a>) -> Result<NodeOptions<'a>, OptionFault>
+        ensures time { IfOk result (λ options. IsDrainTime options.drain_seconds) }
+        ensures values { IfOk result (λ options. AreNodeValues given.entry options) }
+        ensures refused { result_err result ≡ node_fault given.entry }
+    {
+        let name = name_read(given.name)?;
+        let least_inc = least_inc_within(given.least_inc)?;
+        let drain_seconds = within(given.drain_seconds, OptionName::DrainSeconds)?;
+        let Some(log_level) = level_named(given.log_level) else {
+            return Err(OptionFault::NoLevel);
+        };
+        control_within(given.control)?;
+        Ok(NodeOptions {
+            name,
+            mesh: given.mesh,
+            state: given.state,
+            least_inc,
+            log_level,
+            drain_seconds,
+            control: given.control,
+        })
     }
 }

@@ -124,6 +124,10 @@ publication_in json = do
   publication_of subject reply content
 
 -- a publish, or one that is delivered
+abbrev pub published_by : Verb → ℕ → Pub → ℕ → Act
+published_by verb.Deliver = Deliver
+published_by other = Publish
+
 unfoldable pub publish_in : (ℕ → Pub → ℕ → Act) → Data → Option Act
 publish_in act json = do
   conn ← conn json
@@ -141,6 +145,14 @@ receive_in json = do
   frame ← frame json
   Some (Receive frame)
 
+-- what is done at a shard with nothing but its number
+abbrev pub at_shard : Verb → ℕ → Act
+at_shard verb.Collect = Collect
+at_shard verb.DrainShard = DrainShard
+at_shard verb.Begin = Begin
+at_shard verb.End = End
+at_shard other = DropJob
+
 unfoldable pub of_shard : (ℕ → Act) → Data → Option Act
 of_shard act json = do
   shard ← shard json
@@ -156,6 +168,10 @@ unfoldable pub of_peer : (List ℕ → Act) → Data → Option Act
 of_peer act json = do
   peer ← peer json
   Some (act peer)
+
+abbrev pub on_session : Verb → ℕ → ℕ → Act
+on_session verb.Connect = Connect
+on_session other = Info
 
 unfoldable pub of_session : (ℕ → ℕ → Act) → Data → Option Act
 of_session act json = do

@@ -1,13 +1,12 @@
 //! Why bytes are no script.
 
 ghost use Rattle.std.specs.Prelude.{◌≡◌};
-ghost use Rattle.script_form.specs.declared.faults.ScriptFault.TheVariants.{BadShape, TooLong};
 ghost use Rattle.script_form.specs.Faults.{script_fault_number};
 
 use crate::steps::Member;
 use std::fmt;
-use std::fmt::{Display, Formatter, Write};
-use subj::{Failure, JOIN_EVENTS, SCRIPT_BYTES, SCRIPT_EVENTS};
+use std::fmt::{Debug, Display, Formatter, Write};
+use subj::{JOIN_EVENTS, SCRIPT_BYTES, SCRIPT_EVENTS};
 use thiserror::Error;
 
 /// Why bytes are no script. The first cause that holds is told. (Profile.)
@@ -35,7 +34,7 @@ impl ScriptFault {
 }
 
 /// Where a script is not as it has to be.
-#[derive(Clone, Copy, Debug)]
+#[derive(Clone, Copy)]
 pub enum Place {
     /// The script as a whole.
     Whole,
@@ -63,7 +62,7 @@ impl Display for Place {
 }
 
 /// Why bytes are no script, and where.
-#[derive(Clone, Copy, Debug, Error)]
+#[derive(Clone, Copy, Error)]
 #[error("{place}: {fault}")]
 pub struct ScriptError {
     /// The first cause that holds.
@@ -72,53 +71,9 @@ pub struct ScriptError {
     pub place: Place,
 }
 
-impl ScriptError {
-    pub(crate) fn too_long() -> ScriptError
-        ensures { result.fault ≡ TooLong }
-    {
-        ScriptError {
-            fault: ScriptFault::TooLong,
-            place: Place::Whole,
-        }
-    }
-
-    pub(crate) fn bad_shape(place: Place) -> ScriptError
-        ensures { result.fault ≡ BadShape }
-    {
-        ScriptError {
-            fault: ScriptFault::BadShape,
-            place,
-        }
-    }
-}
-
-/// A member of an object is missing, or is not what it has to be.
-#[derive(Clone, Copy)]
-pub(crate) struct Misfit {
-    pub(crate) member: Member,
-}
-
-impl From<Misfit> for Failure<Misfit> {
-    ghost use Rattle.std.specs.Prelude.{◌≡◌};
-    ghost use Rattle.subj.specs.declared.failures.Failure.TheVariants.{Refused};
-
-    ghost from_gives = { λ misfit failure. failure ≡ Refused misfit };
-
-    fn from(misfit: Misfit) -> Failure<Misfit> {
-        Failure::Refused(misfit)
-    }
-}
-
-impl From<Misfit> for Failure<Place> {
-    ghost use Rattle.std.specs.Prelude.{◌≡◌};
-    ghost use Rattle.subj.specs.declared.failures.Failure.TheVariants.{Refused};
-    ghost use Rattle.script_form.specs.declared.faults.Place.TheVariants.{Member};
-
-    ghost from_gives = { λ misfit failure. failure ≡ Refused (Member misfit.member) };
-
-    fn from(misfit: Misfit) -> Failure<Place> {
-        Failure::Refused(Place::Member {
-            member: misfit.member,
-        })
+/// As it is told.
+impl Debug for ScriptError {
+    fn fmt<W: Write>(&self, f: &mut Formatter<W>) -> fmt::Result {
+        Display::fmt(self, f)
     }
 }

@@ -8,13 +8,12 @@ ghost use Rattle.subj.specs.Answers.{IsAnswered};
 ghost use Rattle.subj.specs.Names.{node_name_fault, pattern_fault, subject_fault, queue_name_fault, sid_fault};
 ghost use Rattle.subj.specs.Publications.{new_publication};
 ghost use Rattle.script_form.specs.Members.{MemberMeans, Says, SaysBy, member as there, optional, whole, text as is_text, truth as is_truth, node as is_node, name_at, optional_name_at, MeansBy};
-ghost use Rattle.script_form.specs.Acts.{start_in, attach_in, key_in, sub_in, unsub_in, headers_in, content_in, publication_of, publication_in, publish_in, settled_in, claim_in, take_entries_in, take_frames_in, take_in, act_in, content_of, verb_in, step_in, shard, peer, session, frame, conn};
-ghost use Rattle.script_form.specs.declared.steps.Act.TheVariants.{Publish, Deliver};
-ghost use Rattle.script_form.specs.declared.steps.Member.TheVariants.{Headers as HeadersMember, Payload as PayloadMember};
+ghost use Rattle.script_form.specs.Acts.{start_in, attach_in, key_in, sub_in, unsub_in, headers_in, content_in, publication_of, publication_in, publish_in, settled_in, claim_in, take_in, act_in, content_of, verb_in, step_in, of_shard, at_shard, of_session, on_session, published_by, conn};
 ghost use Rattle.serde_json.specs.Find.{as_array};
+ghost use Rattle.script_form.specs.declared.faults.ScriptFault.TheVariants.{TooLong};
 ghost use Rattle.script_form.specs.Form.{each, count_of, script_in, Reads, ReadsJson};
 
-use crate::faults::{Misfit, Place, ScriptError, ScriptFault};
+use crate::faults::{Place, ScriptError, ScriptFault};
 use crate::steps::{Act, Member, Step, Verb};
 use bytes::Bytes;
 use serde_json::Value;
@@ -24,6 +23,37 @@ use subj::{
     ConnId, Failure, Incarnation, Key, NameFault, NodeId, Pattern, Pub, QueueName, SCRIPT_BYTES,
     SCRIPT_EVENTS, ServerIdentity, Sid, Subject,
 };
+
+/// A member of an object is missing, or is not what it has to be.
+#[derive(Clone, Copy)]
+struct Misfit {
+    member: Member,
+}
+
+impl From<Misfit> for Failure<Misfit> {
+    ghost use Rattle.std.specs.Prelude.{◌≡◌};
+    ghost use Rattle.subj.specs.declared.failures.Failure.TheVariants.{Refused};
+
+    ghost from_gives = { λ misfit failure. failure ≡ Refused misfit };
+
+    fn from(misfit: Misfit) -> Failure<Misfit> {
+        Failure::Refused(misfit)
+    }
+}
+
+impl From<Misfit> for Failure<Place> {
+    ghost use Rattle.std.specs.Prelude.{◌≡◌};
+    ghost use Rattle.subj.specs.declared.failures.Failure.TheVariants.{Refused};
+    ghost use Rattle.script_form.specs.declared.faults.Place.TheVariants.{Member};
+
+    ghost from_gives = { λ misfit failure. failure ≡ Refused (Member misfit.member) };
+
+    fn from(misfit: Misfit) -> Failure<Place> {
+        Failure::Refused(Place::Member {
+            member: misfit.member,
+        })
+    }
+}
 
 /// A whole number of at least 0.
 fn number(object: &Value, member: Member) -> Result<u64, Misfit>
@@ -211,33 +241,9 @@ fn read_conn(object: &Value) -> Result<ConnId, Misfit>
     Ok(ConnId::new(number))
 }
 
-fn read_shard(object: &Value) -> Result<u64, Misfit>
-    ensures { Says (shard (view object.now)) result }
-{
-    number(object, Member::Shard)
-}
-
-fn read_session(object: &Value) -> Result<u64, Misfit>
-    ensures { Says (session (view object.now)) result }
-{
-    number(object, Member::Session)
-}
-
-fn read_frame(object: &Value) -> Result<u64, Misfit>
-    ensures { Says (frame (view object.now)) result }
-{
-    number(object, Member::Frame)
-}
-
-fn read_peer(object: &Value) -> Result<NodeId, Misfit>
-    ensures { Says (peer (view object.now)) result }
-{
-    node(object, Member::Peer)
-}
-
 #[tactic(auto, unfolding(crate::specs::Acts::start_in))]
-fn read_start(object: &Value) -> Result<Act, Misfit>
-    ensures { Says (start_in (view object.now)) result }
+fn read_start(object: &Value) -> Result<Act, Failure<Misfit>>
+    ensures { MemberMeans (start_in (view object.now)) result }
 {
     let number = number(object, Member::Inc)?;
     let inc = Incarnation::new(number).ok_or(Misfit {
@@ -247,8 +253,8 @@ fn read_start(object: &Value) -> Result<Act, Misfit>
 }
 
 #[tactic(auto, unfolding(crate::specs::Acts::attach_in))]
-fn read_attach(object: &Value) -> Result<Act, Misfit>
-    ensures { Says (attach_in (view object.now)) result }
+fn read_attach(object: &Value) -> Result<Act, Failure<Misfit>>
+    ensures { MemberMeans (attach_in (view object.now)) result }
 {
     let shard = optional_number(object, Member::Shard)?;
     Ok(Act::Attach {
@@ -286,8 +292,8 @@ fn read_unsub(alloc: Global, object: &Value) -> Result<Act, Failure<Misfit>>
 }
 
 #[tactic(auto, unfolding(crate::specs::Acts::headers_in))]
-fn read_headers(object: &Value) -> Result<Act, Misfit>
-    ensures { Says (headers_in (view object.now)) result }
+fn read_headers(object: &Value) -> Result<Act, Failure<Misfit>>
+    ensures { MemberMeans (headers_in (view object.now)) result }
 {
     let conn = read_conn(object)?;
     let on = truth(object, Member::On)?;
@@ -301,16 +307,6 @@ fn bytes_where_there(alloc: Global, text: Option<&str>) -> Result<Option<Bytes>,
     match text {
         None => Ok(None),
         Some(text) => Ok(Some(Bytes::copy_from_slice(alloc, text.as_bytes())?)),
-    }
-}
-
-/// Which member is wrong where headers and payload make no publication: the headers, where there are any.
-fn wrong_member(headers: Option<&str>) -> Member
-    ensures { result ≡ (if is_some headers.entry then HeadersMember else PayloadMember) }
-{
-    match headers {
-        Some(_) => Member::Headers,
-        None => Member::Payload,
     }
 }
 
@@ -343,7 +339,7 @@ fn blocks_of(alloc: Global, content: Content<'_>) -> Result<(Option<Bytes>, Byte
     Ok((headers, payload))
 }
 
-/// The publication of this content.
+/// The publication of this content. Where it is none, its headers are wrong, or else its payload.
 fn publication_of(
     alloc: Global,
     subject: Subject,
@@ -355,8 +351,11 @@ fn publication_of(
     let (headers, payload) = blocks_of(alloc, content)?;
     match Pub::new(alloc, subject, reply, headers, payload, content.echo)? {
         Some(publication) => Ok(publication),
+        None if content.headers.is_some() => Err(Failure::Refused(Misfit {
+            member: Member::Headers,
+        })),
         None => Err(Failure::Refused(Misfit {
-            member: wrong_member(content.headers),
+            member: Member::Payload,
         })),
     }
 }
@@ -372,32 +371,26 @@ fn read_publication(alloc: Global, object: &Value) -> Result<Pub, Failure<Misfit
     publication_of(alloc, subject, reply, content)
 }
 
+/// What is published, and whether it is delivered too, as the verb says.
 #[tactic(auto, unfolding(crate::specs::Acts::publish_in))]
-fn read_publish(alloc: Global, object: &Value) -> Result<Act, Failure<Misfit>>
-    ensures { MemberMeans (publish_in Publish (view object.now)) result }
+fn read_publish(alloc: Global, verb: Verb, object: &Value) -> Result<Act, Failure<Misfit>>
+    ensures { MemberMeans (publish_in (published_by verb) (view object.now)) result }
 {
     let conn = read_conn(object)?;
     let publication = read_publication(alloc, object)?;
     let word = number(object, Member::Word)?;
-    Ok(Act::Publish {
-        conn,
-        publication,
-        word,
-    })
-}
-
-#[tactic(auto, unfolding(crate::specs::Acts::publish_in))]
-fn read_deliver(alloc: Global, object: &Value) -> Result<Act, Failure<Misfit>>
-    ensures { MemberMeans (publish_in Deliver (view object.now)) result }
-{
-    let conn = read_conn(object)?;
-    let publication = read_publication(alloc, object)?;
-    let word = number(object, Member::Word)?;
-    Ok(Act::Deliver {
-        conn,
-        publication,
-        word,
-    })
+    match verb {
+        Verb::Deliver => Ok(Act::Deliver {
+            conn,
+            publication,
+            word,
+        }),
+        _ => Ok(Act::Publish {
+            conn,
+            publication,
+            word,
+        }),
+    }
 }
 
 #[tactic(auto, unfolding(crate::specs::Acts::settled_in))]
@@ -409,99 +402,93 @@ fn read_settled(alloc: Global, object: &Value) -> Result<Act, Failure<Misfit>>
 }
 
 #[tactic(auto, unfolding(crate::specs::Acts::claim_in))]
-fn read_claim(object: &Value) -> Result<Act, Misfit>
-    ensures { Says (claim_in (view object.now)) result }
+fn read_claim(object: &Value) -> Result<Act, Failure<Misfit>>
+    ensures { MemberMeans (claim_in (view object.now)) result }
 {
-    let shard = read_shard(object)?;
+    let shard = number(object, Member::Shard)?;
     let index = number(object, Member::Index)?;
     Ok(Act::Claim { shard, index })
 }
 
-#[tactic(auto, unfolding(crate::specs::Acts::take_entries_in))]
-fn read_take_entries(object: &Value) -> Result<Act, Misfit>
-    ensures { Says (take_entries_in (view object.now)) result }
+/// From the connection; where none is named, from the peer.
+#[tactic(auto, unfolding(crate::specs::Acts::take_entries_in, crate::specs::Acts::take_frames_in))]
+fn read_take(object: &Value) -> Result<Act, Failure<Misfit>>
+    ensures { MemberMeans (take_in (view object.now)) result }
 {
-    let conn = read_conn(object)?;
-    let count = number(object, Member::Count)?;
-    Ok(Act::TakeEntries { conn, count })
-}
-
-#[tactic(auto, unfolding(crate::specs::Acts::take_frames_in))]
-fn read_take_frames(object: &Value) -> Result<Act, Misfit>
-    ensures { Says (take_frames_in (view object.now)) result }
-{
-    let peer = read_peer(object)?;
+    if object.get(Member::Conn.name()).is_some() {
+        let conn = read_conn(object)?;
+        let count = number(object, Member::Count)?;
+        return Ok(Act::TakeEntries { conn, count });
+    }
+    let peer = node(object, Member::Peer)?;
     let count = number(object, Member::Count)?;
     Ok(Act::TakeFrames { peer, count })
 }
 
-/// From the connection; where none is named, from the peer.
-fn read_take(object: &Value) -> Result<Act, Misfit>
-    ensures { Says (take_in (view object.now)) result }
+/// What is done at a shard, as the verb says.
+#[tactic(auto, unfolding(crate::specs::Acts::of_shard))]
+fn read_at_shard(verb: Verb, object: &Value) -> Result<Act, Failure<Misfit>>
+    ensures { MemberMeans (of_shard (at_shard verb) (view object.now)) result }
 {
-    if object.get(Member::Conn.name()).is_some() {
-        read_take_entries(object)
-    } else {
-        read_take_frames(object)
+    let shard = number(object, Member::Shard)?;
+    match verb {
+        Verb::Collect => Ok(Act::Collect { shard }),
+        Verb::DrainShard => Ok(Act::DrainShard { shard }),
+        Verb::Begin => Ok(Act::Begin { shard }),
+        Verb::End => Ok(Act::End { shard }),
+        _ => Ok(Act::DropJob { shard }),
+    }
+}
+
+/// What is handed to a server on a session: a `CONNECT` where the verb says so, and else an `INFO`.
+#[tactic(auto, unfolding(crate::specs::Acts::of_session))]
+fn read_on_session(verb: Verb, object: &Value) -> Result<Act, Failure<Misfit>>
+    ensures { MemberMeans (of_session (on_session verb) (view object.now)) result }
+{
+    let session = number(object, Member::Session)?;
+    let frame = number(object, Member::Frame)?;
+    match verb {
+        Verb::Connect => Ok(Act::Connect { session, frame }),
+        _ => Ok(Act::Info { session, frame }),
     }
 }
 
 /// What is done, of what the verb says.
-#[tactic(auto, unfolding(crate::specs::Acts::of_shard, crate::specs::Acts::of_peer, crate::specs::Acts::of_session, crate::specs::Acts::detach_in, crate::specs::Acts::receive_in, crate::specs::Acts::cut_in))]
+#[tactic(auto, unfolding(crate::specs::Acts::of_peer, crate::specs::Acts::detach_in, crate::specs::Acts::receive_in, crate::specs::Acts::cut_in))]
 fn read_act(alloc: Global, verb: Verb, object: &Value) -> Result<Act, Failure<Misfit>>
     ensures { MemberMeans (act_in verb (view object.now)) result }
 {
     match verb {
-        Verb::Start => Ok(read_start(object)?),
+        Verb::Start => read_start(object),
         Verb::Stop => Ok(Act::Stop),
-        Verb::Attach => Ok(read_attach(object)?),
+        Verb::Attach => read_attach(object),
         Verb::Sub => read_sub(alloc, object),
         Verb::Unsub => read_unsub(alloc, object),
-        Verb::Headers => Ok(read_headers(object)?),
+        Verb::Headers => read_headers(object),
         Verb::Detach => Ok(Act::Detach {
             conn: read_conn(object)?,
         }),
-        Verb::Publish => read_publish(alloc, object),
+        Verb::Publish | Verb::Deliver => read_publish(alloc, verb, object),
         Verb::Settled => read_settled(alloc, object),
-        Verb::Deliver => read_deliver(alloc, object),
         Verb::Receive => Ok(Act::Receive {
-            frame: read_frame(object)?,
+            frame: number(object, Member::Frame)?,
         }),
-        Verb::Collect => Ok(Act::Collect {
-            shard: read_shard(object)?,
-        }),
+        Verb::Collect | Verb::DrainShard | Verb::Begin | Verb::End | Verb::Drop => {
+            read_at_shard(verb, object)
+        }
         Verb::Drain => Ok(Act::Drain),
-        Verb::DrainShard => Ok(Act::DrainShard {
-            shard: read_shard(object)?,
-        }),
-        Verb::Begin => Ok(Act::Begin {
-            shard: read_shard(object)?,
-        }),
-        Verb::End => Ok(Act::End {
-            shard: read_shard(object)?,
-        }),
-        Verb::Drop => Ok(Act::DropJob {
-            shard: read_shard(object)?,
-        }),
-        Verb::Claim => Ok(read_claim(object)?),
+        Verb::Claim => read_claim(object),
         Verb::Dial => Ok(Act::Dial {
-            peer: read_peer(object)?,
+            peer: node(object, Member::Peer)?,
         }),
         Verb::Accept => Ok(Act::Accept),
-        Verb::Info => Ok(Act::Info {
-            session: read_session(object)?,
-            frame: read_frame(object)?,
-        }),
-        Verb::Connect => Ok(Act::Connect {
-            session: read_session(object)?,
-            frame: read_frame(object)?,
-        }),
+        Verb::Info | Verb::Connect => read_on_session(verb, object),
         Verb::Cut => Ok(Act::Cut {
-            session: read_session(object)?,
+            session: number(object, Member::Session)?,
         }),
-        Verb::Take => Ok(read_take(object)?),
+        Verb::Take => read_take(object),
         Verb::Join => Ok(Act::Join {
-            peer: read_peer(object)?,
+            peer: node(object, Member::Peer)?,
         }),
     }
 }
@@ -626,6 +613,15 @@ fn read_steps(alloc: Global, items: &[Value]) -> Result<Vec<Step>, Failure<Place
     Ok(steps)
 }
 
+fn too_long() -> ScriptError
+    ensures { result.fault ≡ TooLong }
+{
+    ScriptError {
+        fault: ScriptFault::TooLong,
+        place: Place::Whole,
+    }
+}
+
 /// Whether there are too many events.
 fn are_too_many(steps: &[Step]) -> bool
     ensures { result ≡ nat_lt SCRIPT_EVENTS (count_of steps.now) }
@@ -680,18 +676,19 @@ impl Script {
         ensures { Reads bytes.now result }
     {
         if bytes.len() > SCRIPT_BYTES {
-            return Err(Failure::Refused(ScriptError::too_long()));
+            return Err(Failure::Refused(too_long()));
         }
         let json = read_json(alloc, bytes)?;
         let script = match Script::from_json(alloc, &json) {
             Ok(script) => script,
-            Err(Failure::Refused(place)) => return Err(Failure::Refused(ScriptError::bad_shape(
+            Err(Failure::Refused(place)) => return Err(Failure::Refused(ScriptError {
+                fault: ScriptFault::BadShape,
                 place,
-            ))),
+            })),
             Err(Failure::OutOfMemory) => return Err(Failure::OutOfMemory),
         };
         if are_too_many(&script.steps) {
-            return Err(Failure::Refused(ScriptError::too_long()));
+            return Err(Failure::Refused(too_long()));
         }
         Ok(script)
     }

@@ -152,7 +152,7 @@ impl Act {
 }
 
 /// A member of a script or of a step. (Profile.)
-#[derive(Clone, Copy, Debug)]
+#[derive(Clone, Copy)]
 pub enum Member {
     Do,
     Node,

@@ -43,4 +43,4 @@ returns-clause-makes g c =
     ∙ ap (λ n. connect_asks c.args.b.node c.args.b.session n) (sym c.in_ok-next.ensures))
     (c.in_ok-outcome.ensures.asks
     (λ w outcome. where_done outcome (connect_asks c.args.b.node c.args.b.session (next_frame w)))))
-    c.connect.ensures.makes
+    c.once.ensures.makes

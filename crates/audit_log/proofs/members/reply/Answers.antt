@@ -1,9 +1,0 @@
-use Rattle.subj.specs.Names.{subject_fault}
-use Rattle.audit_log.specs.declared.texts.Text.TheVariants.{Reply}
-use Rattle.audit_log.proofs.Named.{optional_name_means}
-use Rattle.audit_log.proofs.members.reply.Goals as goal
-
-pub returns-in-Some : goal.returns-in-Some
-returns-in-Some c =
-    optional_name_means subject_fault Reply _ _ _ _ _ _ c.in_ok-optional_bytes.ensures c.in-Some.is
-    c.deref.ensures.value (c.some_valid.ensures _ _ c.read.ensures)
