@@ -14,8 +14,7 @@ ghost use Rattle.node_parts.specs.Jobs.{MayIssue, AreGiven, IsReceived, MayRoute
 ghost use Rattle.node_parts.specs.Sides.{ByHub, side_after};
 
 use crate::lines::ShardWithJobs;
-use crate::peers::is_message;
-use crate::side::HubWithSessions;
+use crate::side::{HubWithSessions, is_message};
 use crate::told::Received;
 use claim_race::Race;
 use hub_core::HubFault;
@@ -128,22 +127,6 @@ pub fn issue<T: SubTable, R: Race>(
     give(lines, job, copies);
 }
 
-/// The next turn is issued, and each line gets one of the jobs. Takes no memory.
-fn issue_all<T: SubTable, R: Race>(
-    race: &mut R,
-    lines: &mut [ShardWithJobs<T>],
-    jobs: &mut Vec<Job>,
-)
-    requires ready { MayIssue (R.contents race.old) lines.old }
-    requires enough { length jobs.old.items ≡ length lines.old }
-    ensures { AreGiven (R.contents race.old) lines.old jobs.old.items (R.contents race.new)
-        lines.new }
-{
-    // required: the next turn may be issued
-    let Ok(_) = race.issue() else { unreachable!() };
-    hand_out(lines, jobs);
-}
-
 /// Takes a frame of a peer; of a message, so many copies of its job are made first.
 pub fn take_in(
     side: &mut HubWithSessions,
@@ -188,5 +171,7 @@ pub fn route<T: SubTable, R: Race>(
     if !is_message(frame) {
         return;
     }
-    issue_all(race, lines, jobs);
+    // required: the next turn may be issued
+    let Ok(_) = race.issue() else { unreachable!() };
+    hand_out(lines, jobs);
 }

@@ -10,19 +10,15 @@
 //!
 //! Whoever has them under one roof is a server; so has whoever keeps each under a lock of its own.
 //!
-//! In reading order: `lines`, `side`, `jobs` (a job for each line), `peers` and `places`.
+//! In reading order: `lines`, `side` and `jobs` (a job for each line).
 #![tactic(auto)]
 
 mod jobs;
 mod lines;
-mod peers;
-mod places;
 mod side;
 mod told;
 
 pub use jobs::{fill, finished_by, issue, route, take_in};
-pub use lines::{Claimed, ShardWithJobs};
-pub use peers::is_message;
-pub use places::{place_of_conn, place_of_shard};
-pub use side::HubWithSessions;
+pub use lines::{Claimed, ShardWithJobs, place_of_conn, place_of_shard};
+pub use side::{HubWithSessions, is_message};
 pub use told::{CollectResult, Issued, Received};

@@ -1,22 +1,21 @@
-//! A shard, and the jobs that wait for it.
+//! A shard, and the jobs that wait for it; which of several a number is for; and why it refuses: the first cause, told without a step.
 
-ghost use Rattle.std.specs.Prelude.{◌≡◌, ◌≤◌, ◌<◌, false, length, Some, None, option_to_list, IfOk};
+ghost use Rattle.std.specs.Prelude.{◌≡◌, ◌==◌, ◌≤◌, ◌<◌, false, length, Some, None, option_to_list, IfOk, IfSome};
 ghost use Rattle.subj.specs.Answers.{IsAnswered, IsDecided};
 ghost use Rattle.subj.specs.declared.limits.TheConstants.{MAX_SHARDS, WINDOW};
 ghost use Rattle.shard_core.specs.Answers.{answer_of};
 ghost use Rattle.shard_core.specs.Lines.{first_of};
+ghost use Rattle.shard_core.specs.Shards.{waits_for};
 ghost use Rattle.shard_core.specs.ShardEvents.{Attach, Subscribe, Unsubscribe, Reply, SetHeaders, Shut, Detach, Take, Claim, End, Drain, Collect, Attached, Unsubscribed, Replied, HeadersSet, WasShut, Detached, Taken, Drains, Collected};
-ghost use Rattle.node_parts.specs.Lines.{LineStep, LineBegins, LineEnds, LineDrops, LineClaims, MayClaim, WaitsNext, of_answer, of_decision};
+ghost use Rattle.node_parts.specs.Lines.{LineStep, LineBegins, LineEnds, LineDrops, LineClaims, LineTakesBytes, MayClaim, WaitsNext, of_answer, of_decision};
+ghost use Rattle.node_parts.specs.Places.{place_of_conn as place_given, place_of_shard as place_counted};
 ghost use Rattle.node_law.specs.Settled.{is_line_settled, has_room_in};
 ghost use Rattle.node_law.specs.State.{new_line};
-ghost use Rattle.node_law.specs.Steps.{begin_of, drop_of, event_refusal, no_job as no_job_of, line_with_job};
-
-mod refusals;
-mod taking;
+ghost use Rattle.node_law.specs.Steps.{begin_of, conn_event, drop_of, event_refusal, no_job as no_job_of, line_with_job, work_event};
 
 use claim_race::Race;
 use client_frames::{ErrText, ReplyFrame};
-use node_law::NodeFault;
+use node_law::{ConnEvent, NodeFault, ShardWork};
 use outbox::Entry;
 use shard_core::{
     Begun, Candidate, Closed, Placed, Shard, ShardFault, Subscribed, claims_are_whole,
@@ -26,6 +25,30 @@ use std::collections::VecDeque;
 use std::marker::Model;
 use sub_table::SubTable;
 use subj::{ConnId, Delta, Failure, Job, Key, Message, Sid, SubId, Turn, WINDOW};
+
+/// The place of the line that has the connection of this number, of so many lines.
+pub fn place_of_conn(count: usize, conn: ConnId) -> Option<usize>
+    requires { 1 ≤ count }
+    ensures place { result ≡ place_given count conn }
+    ensures within { IfSome result (λ place. place < count) }
+{
+    let number = conn.get();
+    if number == 0 {
+        return None;
+    }
+    Some(((number - 1) % count as u64) as usize)
+}
+
+/// The place of the line of the shard of this number, of so many lines.
+pub fn place_of_shard(count: usize, shard: u64) -> Option<usize>
+    ensures place { result ≡ place_counted count shard }
+    ensures within { IfSome result (λ place. place < count) }
+{
+    if shard == 0 || shard > count as u64 {
+        return None;
+    }
+    Some((shard - 1) as usize)
+}
 
 /// What a shard answers, as its server's answer.
 fn shard_answer<X>(answer: Result<X, Failure<ShardFault>>) -> Result<X, Failure<NodeFault>>
@@ -78,10 +101,19 @@ pub enum Claimed {
 /// A shard, and the jobs that wait for it, in order of their turns. (Profile.)
 ///
 /// Seen as the shard's state and the list of the jobs. It has a place for each job of a window.
-#[derive(Drop)]
 pub struct ShardWithJobs<T: SubTable> {
     shard: Shard<T>,
     waiting: VecDeque<Job>,
+}
+
+/// By hand, so that it is one call: a derived drop is spelt out, and proved, wherever one goes out of scope.
+impl<T: SubTable> Drop for ShardWithJobs<T> {
+    fn drop(self) {
+        let ShardWithJobs {
+            shard: _,
+            waiting: _,
+        } = self;
+    }
 }
 
 impl<T: SubTable> Model for ShardWithJobs<T> {
@@ -106,8 +138,8 @@ impl<T: SubTable> ShardWithJobs<T> {
         requires few { shards ≤ MAX_SHARDS }
         ensures { IfOk result (λ line. line ≡ new_line shards shard) }
     {
-        let shard = Shard::new(alloc, shard, shards)?;
         let waiting = VecDeque::with_capacity(alloc, WINDOW as usize)?;
+        let shard = Shard::new(alloc, shard, shards)?;
         Ok(ShardWithJobs { shard, waiting })
     }
 
@@ -195,6 +227,20 @@ impl<T: SubTable> ShardWithJobs<T> {
             (self.new ≡ self.old) result }
     {
         shard_answer(self.shard.take(conn, count))
+    }
+
+    /// [`Shard::take_bytes`].
+    pub fn take_bytes(
+        &mut self,
+        conn: ConnId,
+        count: usize,
+        out: &mut Vec<u8>,
+    ) -> Result<usize, Failure<NodeFault>>
+        ensures { IsAnswered (event_refusal self.old (Some (Take conn count)))
+            (λ taken. LineTakesBytes self.old conn count taken out.old.items out.new.items self.new)
+            ((self.new ≡ self.old) × (out.new.items ≡ out.old.items)) result }
+    {
+        shard_answer(self.shard.take_bytes(conn, count, out))
     }
 
     /// [`Shard::end`]. Gives the turn that is finished.
@@ -298,9 +344,14 @@ impl<T: SubTable> ShardWithJobs<T> {
     {
         self.waiting.push_back_reserved(job);
     }
-}
 
-impl<T: SubTable> ShardWithJobs<T> {
+    /// [`Shard::has_nothing_for`].
+    pub fn has_nothing_for(&self, conn: ConnId) -> bool
+        ensures { result ≡ (length (waits_for conn self.now.shard.clients) == 0) }
+    {
+        self.shard.has_nothing_for(conn)
+    }
+
     /// Claims the queue name of this index of the job in hand, which is the next one: the candidate of the
     /// shard is chosen ([`Shard::candidate`]); where there is one the race decides, and one that wins gets
     /// its entry ([`Shard::place`]), of which the answer has a copy with `copies`. Refused as
@@ -337,6 +388,64 @@ impl<T: SubTable> ShardWithJobs<T> {
                 let Candidate { sub, placed } = candidate;
                 Ok(Claimed::Won { sub, placed, ended })
             }
+        }
+    }
+
+    /// Why it refuses a subscribe.
+    pub fn subscribe_fault(&self, conn: ConnId, key: &Key, sid: &Sid) -> Option<NodeFault>
+        ensures { result ≡ event_refusal self.now (Some (Subscribe conn key.now sid.now)) }
+    {
+        let fault = self.shard.subscribe_fault(conn, key, sid)?;
+        Some(NodeFault::Shard(fault))
+    }
+
+    /// Why it refuses what is asked for a connection.
+    pub fn conn_fault(&self, conn: ConnId, event: &ConnEvent) -> Option<NodeFault>
+        ensures { result ≡ event_refusal self.now (Some (conn_event conn event.now)) }
+    {
+        let fault = match event {
+            ConnEvent::Subscribe { key, sid } => self.shard.subscribe_fault(conn, key, sid),
+            ConnEvent::Unsubscribe { .. }
+            | ConnEvent::Reply { .. }
+            | ConnEvent::SetHeaders { .. }
+            | ConnEvent::Shut { .. } => self.shard.open_fault(conn),
+            ConnEvent::Detach | ConnEvent::Take { .. } => self.shard.known_fault(conn),
+        };
+        Some(NodeFault::Shard(fault?))
+    }
+
+    /// Why a begin is refused.
+    fn begin_fault(&self) -> Option<NodeFault>
+        ensures { result ≡ event_refusal self.now (begin_of (first_of self.now.waiting)) }
+    {
+        match self.waiting.front() {
+            None => Some(no_job(&self.shard)),
+            Some(job) => Some(NodeFault::Shard(self.shard.begin_fault(job)?)),
+        }
+    }
+
+    /// Why a drop is refused.
+    fn drop_fault(&self) -> Option<NodeFault>
+        ensures { result
+            ≡ event_refusal self.now (drop_of self.now.shard.hand (first_of self.now.waiting)) }
+    {
+        if self.shard.hand().is_some() || !self.waiting.is_empty() {
+            return None;
+        }
+        Some(NodeFault::Shard(ShardFault::NoJob))
+    }
+
+    /// Why it refuses what its shard is asked to do.
+    pub fn work_fault(&self, work: ShardWork) -> Option<NodeFault>
+        ensures { result ≡ event_refusal self.now (work_event work false self.now) }
+    {
+        match work {
+            ShardWork::Attach => Some(NodeFault::Shard(self.shard.attach_fault()?)),
+            ShardWork::Begin => self.begin_fault(),
+            ShardWork::Claim { index } => Some(NodeFault::Shard(self.shard.claim_fault(index)?)),
+            ShardWork::End => Some(NodeFault::Shard(self.shard.end_fault()?)),
+            ShardWork::DropJob => self.drop_fault(),
+            ShardWork::DrainShard => Some(NodeFault::Shard(self.shard.drain_fault()?)),
         }
     }
 }

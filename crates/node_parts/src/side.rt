@@ -1,4 +1,4 @@
-//! The hub's part of a server: its hub and its sessions.
+//! The hub's part of a server: its hub and its sessions, and the peers at both.
 
 ghost use Rattle.std.specs.Prelude.{◌≡◌, ◌&&◌, ⊤, [], true, false, option_map, slice_get, IfOk};
 ghost use Rattle.subj.specs.Answers.{IsAnswered, IsDecided};
@@ -8,6 +8,7 @@ ghost use Rattle.hub_core.specs.Events.{Collect, Drain, Receive, TakeFrom, Colle
 ghost use Rattle.hub_core.specs.Publishing.{publish_refusal};
 ghost use Rattle.hub_core.specs.Receiving.{has_message, receive_refusal};
 ghost use Rattle.hub_core.specs.Hubs.{DoesStep};
+ghost use Rattle.hub_core.specs.State.{peer_of, seen_of as seen_by_hub};
 ghost use Rattle.hub_core.specs.Peers.{snapshot_to};
 ghost use Rattle.hub_core.specs.Settled.{knows_at};
 ghost use Rattle.hub_core.specs.Steps.{hub_refusal};
@@ -15,17 +16,75 @@ ghost use Rattle.hub_core.specs.Telling.{collect_frames, drain_frames};
 ghost use Rattle.route_session.specs.Calls.{peer_of as peer_by_name};
 ghost use Rattle.route_session.specs.Events.{Dial, Accept, OnInfo, OnConnect, Cut, Dialed, Accepted, KeptAfterInfo, Kept as WasKept, WasCut};
 ghost use Rattle.route_session.specs.State.{has_session};
-ghost use Rattle.route_session.specs.Steps.{session_refusal};
-ghost use Rattle.subj.specs.Servers.{IsListed};
-ghost use Rattle.node_parts.specs.Sides.{ByHub, BySessions, OfHub, OfSessions, IsDone, new_side, seen_name, side_after};
+ghost use Rattle.route_session.specs.Steps.{session_refusal, without_peers};
+ghost use Rattle.subj.specs.Servers.{IsListed, place as place_of, is_peer as peer};
+ghost use Rattle.node_parts.specs.Sides.{ByHub, BySessions, OfHub, OfSessions, IsDone, new_side, seen_name, session_after_frame, side_after};
 
-use crate::peers::{drop_sessions, end_old_session, peer_named, seen_of};
 use hub_core::{CollectResult, Hub, HubFault, PublishPlan};
 use route_session::{Kept, SessionFault, SessionId, Sessions};
-use route_values::{Numbered, RouteConnect, RouteInfo};
+use route_values::{Body, Numbered, RouteConnect, RouteInfo};
 use std::alloc::{AllocError, Global};
 use std::marker::Model;
 use subj::{ConnId, Delta, Failure, Finished, Incarnation, Job, NodeId, Pub, ServerIdentity};
+
+/// The place of the peer of this name.
+#[tactic(auto, using(crate::proofs::Greeting::nobody, crate::proofs::Greeting::at_place))]
+fn peer_named(server: &ServerIdentity, name: NodeId) -> Option<usize>
+    ensures { result ≡ peer_by_name server.now name }
+{
+    let place = server.place(name)?;
+    server.is_peer(place).then_some(place)
+}
+
+/// The greatest incarnation seen of the peer of this name; 0 before the first, and of anyone else.
+fn seen_of(hub: &Hub, name: NodeId) -> u64
+    ensures { result ≡ seen_by_hub (peer_of hub.now.server hub.now.state name) }
+{
+    match peer_named(hub.server(), name) {
+        None => 0,
+        Some(place) => hub.seen_of(place),
+    }
+}
+
+/// Ends the sessions that are kept with the peers at these places. Takes no memory.
+fn drop_sessions(sessions: &mut Sessions, peers: &[usize])
+    ensures { sessions.new ≡ record {
+      server = sessions.old.server;
+      state = without_peers peers.now sessions.old.state;
+    } }
+{
+    for peer in peers {
+        sessions.drop_kept(*peer);
+    }
+}
+
+/// Whether the frame is a message.
+pub fn is_message(frame: &Numbered) -> bool
+    ensures { result ≡ has_message frame.now.body }
+{
+    matches!(frame.body(), Body::Msg { .. })
+}
+
+/// Where the frame is of a later life of its peer than was seen, the session that was kept with the peer
+/// ends. Takes no memory.
+fn end_old_session(sessions: &mut Sessions, frame: &Numbered, seen: u64)
+    requires { peer sessions.old.server (place_of sessions.old.server frame.now.from) ≡ true }
+    ensures { sessions.new ≡ record {
+      server = sessions.old.server;
+      state =
+          session_after_frame (place_of sessions.old.server frame.now.from) seen frame.now.inc
+          sessions.old.state;
+    } }
+{
+    if frame.inc().get() <= seen {
+        return;
+    }
+    let Some(place) = peer_named(sessions.server(), frame.from()) else {
+        // required: the frame is of a peer
+        unreachable!()
+    };
+    sessions.drop_kept(place);
+}
 
 /// Counts the deltas of the shard, and tells of them: [`Hub::collect`].
 fn tell(hub: &mut Hub, shard: u64, deltas: &[Delta]) -> Result<CollectResult, Failure<HubFault>>
@@ -45,10 +104,19 @@ fn tell(hub: &mut Hub, shard: u64, deltas: &[Delta]) -> Result<CollectResult, Fa
 ///
 /// Seen as who the server is, and the states of both. Each call is a step of the one or of the other, with what the
 /// other does at it; a refusal and want of memory leave both as they were.
-#[derive(Drop)]
 pub struct HubWithSessions {
     hub: Hub,
     sessions: Sessions,
+}
+
+/// By hand, so that it is one call: a derived drop is spelt out, and proved, wherever one goes out of scope.
+impl Drop for HubWithSessions {
+    fn drop(self) {
+        let HubWithSessions {
+            hub: _,
+            sessions: _,
+        } = self;
+    }
 }
 
 impl Model for HubWithSessions {

@@ -3,7 +3,7 @@
 use subj::Turn;
 
 /// A publication that was issued.
-#[derive(Clone, Copy, PartialEq, Eq)]
+#[derive(Clone, Copy)]
 pub struct Issued {
     /// The turn of its job.
     pub turn: Turn,
@@ -12,7 +12,7 @@ pub struct Issued {
 }
 
 /// What has become of a frame of a peer.
-#[derive(Clone, Copy, PartialEq, Eq)]
+#[derive(Clone, Copy)]
 pub enum Received {
     /// Of a message, the turn of its job.
     Routed(Turn),

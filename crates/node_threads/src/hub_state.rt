@@ -1,13 +1,14 @@
-//! What stands under the lock of the hub: its ends of the lanes, the jobs on their way to these, and its state.
+//! What stands under the lock of the hub: the jobs on their way to the lanes, and its state. It issues publications that are lent in one call.
 
-ghost use Rattle.std.specs.Prelude.{◌≡◌, ◌-◌, ◌++◌, true, false, Some, [], slice_get, ◌+◌, ◌<◌, ◌∷◌, All, length, map, OnOk, OnErr, None, ⊤, IfOk, IfSome};
+ghost use Rattle.std.specs.Prelude.{◌≡◌, ◌++◌, true, false, Some, [], ◌+◌, ◌<◌, ◌∷◌, All, length, map, OnOk, OnErr, None, ⊤, IfOk, IfSome, if◌then◌else◌};
 ghost use Rattle.job_block.specs.Blocks.{IsLast, job_of as job_by, turn_behind};
 ghost use Rattle.job_lane.specs.Turns.{AreNumbered};
 ghost use Rattle.node_threads.specs.Outlets.{jobs_owed, AreFirst};
 ghost use Rattle.subj.specs.Answers.{IsAnswered, IsDecided};
 ghost use Rattle.claim_cells.specs.Calls.{IsLooked};
 ghost use Rattle.claim_cells.specs.Rule.{fresh_hub};
-ghost use Rattle.hub_core.specs.Chosen.{IsPlanOf, publication_by};
+ghost use Rattle.hub_core.specs.Chosen.{IsPlanOf, publication_by, turn_refusal};
+ghost use Rattle.hub_core.specs.Local.{HasTurnsFor, OwesLocalJob, behind_local};
 ghost use Rattle.hub_core.specs.Calls.{job_of};
 ghost use Rattle.hub_core.specs.Events.{Receive, Drain, Drained, TakeFrom, Heard as WasHeard, Taken};
 ghost use Rattle.hub_core.specs.Publishing.{publish_refusal};
@@ -17,16 +18,16 @@ ghost use Rattle.hub_core.specs.Telling.{drain_frames};
 ghost use Rattle.route_session.specs.Events.{Dial, Accept, OnInfo, OnConnect, Cut, Dialed, Accepted, KeptAfterInfo, Kept as WasKept, WasCut};
 ghost use Rattle.route_session.specs.Steps.{session_refusal};
 ghost use Rattle.node_threads.specs.AtHub.{Collects, Does, Looks, Publishes, Receives, Routes, refuses_busy, IsAtHub};
+ghost use Rattle.node_threads.specs.HubRuns.{IssuesRun};
 ghost use Rattle.node_parts.specs.Sides.{ByHub, BySessions, OfHub, OfSessions, new_side, seen_name};
 
-mod lending;
-
+use crate::lane_sender::LaneSender;
 use crate::node_name::NodeName;
 use crate::shard_state::ShardState;
 use claim_cells::{Cells, HubSeat};
 use hub_core::{CollectResult, HubFault, PublishPlan};
 use job_block::{JobBlock, LentJob, LentPub, Origin};
-use job_lane::{LaneIn, Run};
+use job_lane::Run;
 use node_parts::{HubWithSessions, Issued, Received, is_message};
 use publication_runs::LentRun;
 use route_session::{Kept, SessionFault, SessionId};
@@ -36,95 +37,6 @@ use std::marker::{Model, PhantomData};
 use std::sync::Wait;
 use sub_table::SubTable;
 use subj::{ConnId, Failure, Finished, Job, Pub, QueueNames, ServerIdentity, Turn};
-
-/// The end of a shard's lane that runs are pushed at.
-///
-/// Seen as the shard, all jobs pushed, and whether the lane has the run that is handed out.
-#[derive(Drop)]
-pub struct LaneSender<N: NodeName> {
-    shard: u64,
-    lane: LaneIn,
-    taken: bool,
-    of: PhantomData<N>,
-}
-
-impl<N: NodeName> Model for LaneSender<N> {
-    ghost use Rattle.std.specs.Prelude.{◌≡◌, ◌-◌, Some, slice_get};
-    ghost use Rattle.node_threads.specs.Outlets.{LaneSender};
-
-    ghost Value = { LaneSender };
-
-    ghost view = { λ s. record { shard = s.shard; pushed = s.lane.pushed; taken = s.taken } };
-
-    ghost invariant = { λ s. slice_get N.lanes (s.shard - 1) ≡ Some s.lane.lane };
-}
-
-impl<N: NodeName> LaneSender<N> {
-    /// The end of the lane of this shard, counted from 1, to which nothing was pushed. Required: the server's
-    /// name has it as that shard's lane.
-    pub fn new(shard: u64, lane: LaneIn) -> LaneSender<N>
-        requires lane { slice_get N.lanes (shard - 1) ≡ Some lane.lane }
-        requires fresh { lane.pushed ≡ [] }
-        ensures { result ≡ record { shard = shard; pushed = []; taken = false } }
-    {
-        LaneSender {
-            shard,
-            lane,
-            taken: false,
-            of: PhantomData,
-        }
-    }
-
-    /// Of which shard it is, counted from 1.
-    pub fn shard(&self) -> u64
-        ensures { result ≡ self.now.shard }
-    {
-        self.shard
-    }
-
-    /// The end of the lane alone.
-    pub fn into_lane(self) -> LaneIn
-        ensures lane { slice_get N.lanes (self.shard - 1) ≡ Some result.lane }
-        ensures pushed { result.pushed ≡ self.pushed }
-    {
-        let LaneSender { lane, .. } = self;
-        lane
-    }
-
-    /// Whether the lane has the run that is handed out.
-    fn has_taken(&self) -> bool
-        ensures { result ≡ self.now.taken }
-    {
-        self.taken
-    }
-
-    /// Another run is handed out.
-    fn begin(&mut self)
-        ensures { self.new ≡ record self.old { taken = false } }
-    {
-        self.taken = false;
-    }
-
-    /// Pushes the run, unless the lane has it. A lane without room, and want of memory, leave it owed.
-    #[tactic(auto, using(crate::proofs::Lanes::Outlets::owed_behind, crate::proofs::Lanes::Outlets::pushed_now))]
-    fn offer<R: Wait>(&mut self, rt: &R, run: &Run)
-        requires { AreNumbered (self.old.pushed ++ jobs_owed self.old.taken (Some run.now)) }
-        ensures { (self.new.shard ≡ self.old.shard)
-            × (self.new.pushed ++ jobs_owed self.new.taken (Some run.now)
-            ≡ self.old.pushed ++ jobs_owed self.old.taken (Some run.now)) }
-    {
-        if self.taken {
-            return;
-        }
-        let Ok(copy) = run.try_clone() else {
-            return;
-        };
-        if self.lane.push(rt, copy).is_err() {
-            return;
-        }
-        self.taken = true;
-    }
-}
 
 /// The hub's ends of all lanes, and the jobs that not all of them have yet, in order: a run that is handed
 /// out, and behind it those that are not made into a run yet.
@@ -200,6 +112,7 @@ fn begin_all<N: NodeName>(lines: &mut Vec<LaneSender<N>>)
 }
 
 /// The next job of the block has this turn. Required: it has, where there is one already.
+#[inline(always)]
 fn begin_at(block: &mut JobBlock, turn: Turn)
     requires { 0 < length block.old.jobs → turn_behind block.old ≡ turn }
     ensures { (block.new.jobs ≡ block.old.jobs) × (turn_behind block.new ≡ turn) }
@@ -355,13 +268,25 @@ impl<N: NodeName> Outlet<N> {
 /// as it has loaded them last, and all jobs that it gave to the shards. All that it ever did is a list of
 /// the hub's and the sessions' own steps, and the jobs are those of their answers; what was pushed to each
 /// lane is a beginning of these.
-#[derive(Drop)]
 pub struct HubState<N: NodeName> {
     side: HubWithSessions,
     seat: HubSeat,
     finished: Finished,
     outlet: Outlet<N>,
     of: PhantomData<N>,
+}
+
+/// By hand, so that it is one call: a derived drop is spelt out, and proved, wherever one goes out of scope.
+impl<N: NodeName> Drop for HubState<N> {
+    fn drop(self) {
+        let HubState {
+            side: _,
+            seat: _,
+            finished: _,
+            outlet: _,
+            of: _,
+        } = self;
+    }
 }
 
 impl<N: NodeName> Model for HubState<N> {
@@ -503,6 +428,123 @@ impl<N: NodeName> HubState<N> {
             unreachable!()
         };
         Ok(told)
+    }
+
+    /// Issues publications of the connection that are lent, one after the other, as [`HubState::publish`] does, as far as each owes a job to
+    /// the server's own shards and nothing else, whatever its word. No message is made of any. Gives how many; nothing was done of the
+    /// next: where a shard is a window behind, where the numbers are spent, and for want of memory. 0 where a run does not go on with
+    /// them. Required: the race of this server.
+    pub fn publish_run(&mut self, cells: &Cells, conn: ConnId, run: &mut LentRun<'_>) -> u64
+        requires { cells.now ≡ N.race }
+        ensures { IssuesRun N.race.shards conn result run.old run.new self.old self.new }
+    {
+        match self.outlet.run_names(conn, run) {
+            None => 0,
+            Some(queues) => self.issue_run(cells, conn, run, &queues),
+        }
+    }
+
+    /// Issues publications that are lent, as [`HubState::publish_run`] does, as far as each owes a job with these queue names. Required: a
+    /// run goes on with them.
+    fn issue_run(
+        &mut self,
+        cells: &Cells,
+        conn: ConnId,
+        run: &mut LentRun<'_>,
+        queues: &QueueNames,
+    ) -> u64
+        requires race { cells.now ≡ N.race }
+        requires last { IsLast (Some conn) run.old.subject run.old.echo queues.now
+            self.old.issued }
+        ensures { IssuesRun N.race.shards conn result run.old run.new self.old self.new }
+    {
+        if run.peek().is_none() {
+            return 0;
+        }
+        if !self.side.hub().owes_local_job(run.subject(), queues) {
+            return 0;
+        }
+        let free = self.side.hub().turns_free(&self.finished);
+        self.issue_each(cells, conn, run, queues, free)
+    }
+
+    /// Issues so many publications that are lent, as far as they are given and there is memory. Their jobs have these queue names. Gives how
+    /// many. Required: each owes such a job, so many turns are free, and a run goes on with them.
+    #[inline(always)]
+    fn issue_each(
+        &mut self,
+        cells: &Cells,
+        conn: ConnId,
+        run: &mut LentRun<'_>,
+        queues: &QueueNames,
+        free: u64,
+    ) -> u64
+        requires race { cells.now ≡ N.race }
+        requires local { OwesLocalJob self.old.side.server self.old.side.hub run.old.subject
+            queues.now }
+        requires free { HasTurnsFor self.old.side.server self.old.side.hub self.old.finished free }
+        requires last { IsLast (Some conn) run.old.subject run.old.echo queues.now
+            self.old.issued }
+        ensures { IssuesRun N.race.shards conn result run.old run.new self.old self.new }
+    {
+        for count in 0..free {
+            if !self.issue_next(cells, conn, run, queues) {
+                return count;
+            }
+        }
+        free
+    }
+
+    /// Issues the next publication that is lent, whose job has these queue names. Whether it did; where not, all is as it was. Required: a
+    /// turn is free.
+    #[inline(always)]
+    fn issue_next(
+        &mut self,
+        cells: &Cells,
+        conn: ConnId,
+        run: &mut LentRun<'_>,
+        queues: &QueueNames,
+    ) -> bool
+        requires race { cells.now ≡ N.race }
+        requires local { OwesLocalJob self.old.side.server self.old.side.hub run.old.subject
+            queues.now }
+        requires free { turn_refusal self.old.side.server self.old.side.hub self.old.finished
+            ≡ None }
+        requires last { IsLast (Some conn) run.old.subject run.old.echo queues.now
+            self.old.issued }
+        ensures issues { IssuesRun N.race.shards conn (if result then 1 else 0) run.old run.new
+            self.old self.new }
+        ensures last { IsLast (Some conn) run.new.subject run.new.echo queues.now self.new.issued }
+        ensures same { (self.new.finished ≡ self.old.finished)
+            × (self.new.side.server ≡ self.old.side.server)
+            × (self.new.side.hub
+            ≡ (if result then behind_local 1 self.old.side.hub else self.old.side.hub)) }
+    {
+        let Some(ahead) = run.peek() else {
+            return false;
+        };
+        let Some(turn) = self.side.hub().issued().next() else {
+            // required: a turn is free
+            unreachable!()
+        };
+        let origin = Origin {
+            id: self.side.hub().next_id(),
+            publisher: Some(conn),
+            echo: run.echo(),
+        };
+        let Ok(names) = queues.try_clone() else {
+            return false;
+        };
+        let Ok(()) = self
+            .outlet
+            .add_next(turn, origin, &ahead.publication, names)
+        else {
+            return false;
+        };
+        run.pass(&ahead);
+        self.side.commit_local();
+        cells.issue_shown(&mut self.seat);
+        true
     }
 
     /// The job of a message; the hub looks at the shards where it must.
@@ -709,7 +751,13 @@ impl<N: NodeName> HubState<N> {
         ensures lines { All (λ line. AreFirst line.pushed self.issued) result.1.items }
         ensures done { IsAtHub N.race.shards self }
     {
-        let HubState { seat, outlet, .. } = self;
+        let HubState {
+            side: _,
+            seat,
+            finished: _,
+            outlet,
+            of: _,
+        } = self;
         (seat, outlet.into_lines())
     }
 }

@@ -1,12 +1,93 @@
-//! What is kept in writing of what a shard did.
+//! What is kept in writing of what is done under a lock: its tape, and what stands on that of a shard.
 
-ghost use Rattle.std.specs.Prelude.{◌≡◌, IfOk, take};
+ghost use Rattle.std.specs.Prelude.{◌≡◌, ◌∷◌, ◌++◌, List, [], cond, length, take, true, false, Some, None, IfOk, IfSome, is_some};
 
 use client_frames::{ErrText, ReplyFrame};
 use shard_core::{Begun, Placed, ShardFault};
 use std::alloc::{AllocError, Global};
 use std::marker::Model;
 use subj::{ConnId, Delta, Job, Key, Sid, SubId, Turn};
+
+/// The entries of what was done under a lock, in order; or nothing, where nothing is kept. (Profile.)
+///
+/// Seen as their list, or as None. Where there is no memory for an entry, all of them are given up.
+#[derive(Drop)]
+pub struct Tape<E> {
+    entries: Vec<E>,
+    kept: bool,
+}
+
+impl<E> Model for Tape<E> {
+    ghost use Rattle.std.specs.Prelude.{List, Option, Some, None, cond};
+
+    ghost Value = { Option (List E) };
+
+    ghost view = { λ s. cond s.kept (Some s.entries.items) None };
+}
+
+/// Adds the entry to those that are kept.
+fn add<E: Drop>(entries: &mut Vec<E>, kept: &mut bool, entry: E)
+    ensures { kept.new ≡ true
+        → (kept.old ≡ true) × (entries.new.items ≡ entries.old.items ++ entry ∷ []) }
+{
+    if *kept {
+        *kept = entries.push(entry).is_ok();
+    }
+}
+
+impl<E: Drop> Tape<E> {
+    ghost use Rattle.node_threads.specs.Tapes.{Grows};
+
+    /// One on which nothing is written yet, or where `keep` is false one on which nothing will be.
+    pub fn new(alloc: Global, keep: bool) -> Tape<E>
+        ensures { result ≡ cond keep (Some []) None }
+    {
+        Tape {
+            entries: Vec::new(alloc),
+            kept: keep,
+        }
+    }
+
+    /// Whether entries are kept.
+    pub fn is_kept(&self) -> bool
+        ensures kept { result ≡ is_some self.now }
+        ensures none { result ≡ false → (more : List E) → Grows self.now more self.now }
+    {
+        self.kept
+    }
+
+    /// How many entries stand on it, where they are kept.
+    pub fn len(&self) -> usize
+        ensures { IfSome self.now (λ entries. result ≡ length entries) }
+    {
+        self.entries.len()
+    }
+
+    /// Adds an entry. Where there is no memory for it, all are given up.
+    pub fn note(&mut self, entry: E)
+        ensures { Grows self.old (entry ∷ []) self.new }
+    {
+        add(&mut self.entries, &mut self.kept, entry);
+    }
+
+    /// Gives all entries up.
+    pub fn give_up(&mut self)
+        ensures { self.new ≡ None }
+    {
+        self.kept = false;
+    }
+
+    /// The entries, if they were kept.
+    pub fn into_entries(self) -> Option<Vec<E>>
+        ensures some { IfSome result (λ entries. self ≡ Some entries.items) }
+        ensures none { is_some result ≡ is_some self }
+    {
+        if !self.kept {
+            return None;
+        }
+        Some(self.entries)
+    }
+}
 
 /// Deltas, in order.
 ///
@@ -85,7 +166,6 @@ impl Placements {
 }
 
 /// What a shard was asked; and of a part of a turn and a collect what came of it. (Profile.)
-#[derive(Drop)]
 pub enum ShardEvent {
     /// Makes a connection.
     Attach,
@@ -145,6 +225,39 @@ pub enum ShardEvent {
     Drain,
     /// Handed these deltas to the hub.
     Collect(Deltas),
+}
+
+/// By hand, so that it is one call: a derived drop is spelt out, and proved, wherever one goes out of scope.
+impl Drop for ShardEvent {
+    #[inline(always)]
+    fn drop(self) {
+        match self {
+            ShardEvent::Attach | ShardEvent::End | ShardEvent::Drain => {}
+            ShardEvent::Subscribe {
+                conn: _,
+                key: _,
+                sid: _,
+            } => {}
+            ShardEvent::Unsubscribe {
+                conn: _,
+                sid: _,
+                max: _,
+            } => {}
+            ShardEvent::Reply { conn: _, frame: _ } => {}
+            ShardEvent::SetHeaders { conn: _, on: _ } => {}
+            ShardEvent::Shut { conn: _, text: _ } => {}
+            ShardEvent::Detach { conn: _ } => {}
+            ShardEvent::Take { conn: _, count: _ } => {}
+            ShardEvent::Begin { job: _, placed: _ } => {}
+            ShardEvent::Claim {
+                index: _,
+                won: _,
+                placed: _,
+            } => {}
+            ShardEvent::DropJob(_) => {}
+            ShardEvent::Collect(_) => {}
+        }
+    }
 }
 
 /// What a shard answered: values, and of lists how long they are. (Profile.)

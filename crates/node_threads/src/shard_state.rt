@@ -1,30 +1,32 @@
-//! What stands under the lock of a shard: its state, the calls that its connections make, its turns, the jobs that it drops, and its end.
+//! What stands under the lock of a shard: its state, the calls that its connections make, its turns, the jobs that it drops, and its end. A turn works one
+//! job, or several that wait in one call, each to its end, and may be held by a gate; its steps are written down.
 
-ghost use Rattle.std.specs.Prelude.{◌≡◌, ◌-◌, ◌≤◌, [], ◌∷◌, None, Some, IfOk, IfSome, IfNone, slice_get, option_to_list, true, false, is_some, nat_lt, OnOk, OnErr};
+ghost use Rattle.std.specs.Prelude.{◌≡◌, ◌-◌, ◌<◌, ◌≤◌, [], ◌∷◌, None, Some, IfOk, IfSome, IfNone, slice_get, option_to_list, true, false, cond, is_some, length, nat_lt, OnOk, OnErr};
 ghost use Rattle.subj.specs.Answers.{IsAnswered, IsDecided};
 ghost use Rattle.subj.specs.declared.limits.TheConstants.{MAX_SHARDS};
 ghost use Rattle.claim_cells.specs.Rule.{newcomer};
 ghost use Rattle.shard_core.specs.Answers.{answer_of};
-ghost use Rattle.shard_core.specs.ShardEvents.{Attach, Subscribe, Unsubscribe, Reply, SetHeaders, Shut, Detach, Take, Drain, Drains, Collect, Attached, Unsubscribed, Replied, HeadersSet, WasShut, Detached, Taken, Collected};
+ghost use Rattle.shard_core.specs.ShardEvents.{Attach, Subscribe, Unsubscribe, Reply, SetHeaders, Shut, Detach, Take, Drain, Drains, Collect, DropJob, Attached, Unsubscribed, Replied, HeadersSet, WasShut, Detached, Taken, Collected};
 ghost use Rattle.shard_core.specs.Shards.{is_open as opened};
 ghost use Rattle.shard_core.specs.ShardSteps.{shard_refusal};
 ghost use Rattle.node_threads.specs.AtWork.{Does, TakesBytes, at_start, Makes, HasDone};
-ghost use Rattle.claim_cells.specs.Seats.{last_load};
-ghost use Rattle.node_threads.specs.Tapes.{Grows, Tells, begin_entry};
-ghost use Rattle.node_threads.specs.Turns.{ClaimsOne, HasEnded, HasNone, HasTried, HasWorked, MayBegin, MayClaim, Turns, Drops, HasDropped};
+ghost use Rattle.claim_cells.specs.Seats.{HasTurn, last_load};
+ghost use Rattle.shard_core.specs.declared.faults.ShardFault.TheVariants.{NoJob};
+ghost use Rattle.node_threads.specs.Tapes.{Grows, Tells, begin_entry, claim_entry, drop_entry, end_entry, refused_entry};
+ghost use Rattle.node_threads.specs.Turns.{ClaimsOne, DeliversFirst, HasEnded, HasNone, HasTried, HasWorked, MayBegin, MayClaim, Turns, Drops, HasDropped, WorksFirst};
 
-use crate::gates::Gate;
 use crate::node_name::NodeName;
-use crate::noting::{note_begin, note_claim, note_drop, note_end, note_no_job};
-use crate::runs::{tell, work_first};
-use crate::shard_entries::{Placements, ShardEntry};
-use crate::tape::Tape;
+use crate::shard_entries::{Placements, ShardEntry, ShardEvent, ShardTold, Tape};
 use crate::turned::Turned;
 use claim_cells::{Cells, ShardSeat};
 use client_frames::{ErrText, ReplyFrame};
+use job_block::JobSlice;
 use job_lane::LaneOut;
 use outbox::Entry;
-use shard_core::{Candidate, Closed, DirtyConns, Shard, ShardFault, Subscribed, claims_are_whole};
+use shard_core::{
+    Candidate, Claims, Closed, DirtyConns, Placed, Shard, ShardFault, Subscribed, claims_are_whole,
+    runs_are_worked,
+};
 use std::alloc::{AllocError, Global};
 use std::marker::{Model, PhantomData};
 use std::sync::Wait;
@@ -36,7 +38,6 @@ use subj::{ConnId, Delta, Failure, Job, Key, Sid, SubId, Turn};
 /// Seen as the shard's state, what its seat knows, the jobs popped from the lane, and the one of them that
 /// is not begun yet. All that it ever did is a list of the shard's own steps; it worked just the jobs that
 /// it popped, in order, and its seat won and lost just what these steps say.
-#[derive(Drop)]
 pub struct ShardState<T: SubTable, N: NodeName> {
     alloc: Global,
     shard: Shard<T>,
@@ -47,6 +48,21 @@ pub struct ShardState<T: SubTable, N: NodeName> {
     /// The index of the queue name of the shard's job in hand that is to be claimed next.
     next_index: u64,
     of: PhantomData<N>,
+}
+
+/// By hand, so that it is one call: a derived drop is spelt out, and proved, wherever one goes out of scope.
+impl<T: SubTable, N: NodeName> Drop for ShardState<T, N> {
+    fn drop(self) {
+        let ShardState {
+            alloc: _,
+            shard: _,
+            seat: _,
+            lane: _,
+            waits: _,
+            next_index: _,
+            of: _,
+        } = self;
+    }
 }
 
 impl<T: SubTable, N: NodeName> Model for ShardState<T, N> {
@@ -65,15 +81,221 @@ impl<T: SubTable, N: NodeName> Model for ShardState<T, N> {
         × (slice_get N.lanes (s.seat.part.shard - 1) ≡ Some s.lane.lane) };
 }
 
+/// Is told of each candidate, before its claim. With it a test holds shards in mid-turn. (Profile.)
+pub trait Gate: Sync {
+    /// A shard, counted from 1, has a candidate for the queue name of this index, in this turn. Only that
+    /// shard's lock is held.
+    fn hold(&self, shard: u64, turn: Turn, index: u64);
+}
+
+/// A gate that holds nothing.
+#[derive(Clone, Copy)]
+pub struct Open;
+
+impl Gate for Open {
+    fn hold(&self, _shard: u64, _turn: Turn, _index: u64) {}
+}
+
+/// Tells the gate of a candidate for the queue name of this index, in this turn of the seat's shard. Required: its claim is
+/// still to come.
+fn tell<G: Gate>(gate: &G, seat: &ShardSeat, turn: Turn, index: u64)
+    requires { seat.now.part.next ≤ index }
+{
+    gate.hold(seat.shard(), turn, index);
+}
+
+/// The turn of the seat's shard. Required: the claim of this index is still to come in it.
+fn turn_to_claim(seat: &ShardSeat, _index: u64) -> Option<Turn>
+    requires { seat.now.part.next ≤ _index }
+{
+    seat.turn()
+}
+
+/// The race, with a gate that is told of each candidate before its claim.
+#[derive(Drop)]
+struct GatedCells<'a, G: Gate> {
+    cells: &'a Cells,
+    gate: &'a G,
+}
+
+impl<'a, G: Gate> Claims<ShardSeat> for GatedCells<'a, G> {
+    ghost use Rattle.std.specs.Prelude.{◌≡◌};
+    ghost use Rattle.node_threads.specs.Turns.{SeatKept, claim_part, seat_kept};
+
+    ghost Fixed = { SeatKept };
+
+    ghost fixed = { seat_kept };
+
+    ghost seats = { λ claims seat. seat.race ≡ claims.cells.now };
+
+    ghost part = { λ seat. claim_part seat.part };
+
+    fn is_lost(&self, seat: &mut ShardSeat) -> bool {
+        self.cells.is_lost(seat, 0)
+    }
+
+    fn claim(&self, seat: &mut ShardSeat) -> bool {
+        if let Some(turn) = turn_to_claim(seat, 0) {
+            self.gate.hold(seat.shard(), turn, 0);
+        }
+        self.cells.claim(seat, 0)
+    }
+
+    fn finish(&self, seat: &mut ShardSeat) {
+        self.cells.finish(seat);
+    }
+}
+
+/// Delivers as many of these jobs at once as it can, from the first on and at most so many. Gives how
+/// many; 0 also where there are fewer than two, and for want of memory.
+fn deliver_first<T: SubTable>(shard: &mut Shard<T>, jobs: &JobSlice<'_>, most: u64) -> usize
+    ensures most { result ≤ most }
+    ensures delivers { DeliversFirst jobs.now result shard.old.state shard.new.state }
+{
+    let most = jobs.len().min(most as usize);
+    if most < 2 {
+        return 0;
+    }
+    shard.deliver_run(&jobs.first(most)).unwrap_or(0)
+}
+
+/// Delivers as many of these jobs at once as it can, from the first on, and finishes their turns. Gives how many; 0 where the first one has
+/// to be worked alone.
+fn work_plain<T: SubTable>(
+    shard: &mut Shard<T>,
+    seat: &mut ShardSeat,
+    cells: &Cells,
+    jobs: &JobSlice<'_>,
+) -> usize
+    requires { seat.old.race ≡ cells.now }
+    ensures race { seat.new.race ≡ seat.old.race }
+    ensures works { WorksFirst jobs.now result shard.old.state seat.old.part shard.new.state
+        seat.new.part }
+{
+    let count = deliver_first(shard, jobs, seat.turns_seen());
+    if count == 0 {
+        return 0;
+    }
+    runs_are_worked();
+    cells.finish_many(seat, count as u64);
+    count
+}
+
+/// Works as many of these jobs in one call as it can, from the first on, where each claims one queue name. Gives how many; 0 where the first
+/// one has to be worked alone.
+fn work_claimed<T: SubTable, G: Gate>(
+    shard: &mut Shard<T>,
+    seat: &mut ShardSeat,
+    race: &GatedCells<'_, G>,
+    jobs: &JobSlice<'_>,
+) -> usize
+    requires race { seat.old.race ≡ race.now.cells.now }
+    requires seen { HasTurn seat.old.part }
+    requires finished { seat.old.part.finished ≡ shard.old.state.finished }
+    requires next { seat.old.part.next ≡ 0 }
+    ensures race { seat.new.race ≡ seat.old.race }
+    ensures works { WorksFirst jobs.now result shard.old.state seat.old.part shard.new.state
+        seat.new.part }
+{
+    let most = jobs.len().min(seat.turns_seen() as usize);
+    shard.work_claims(&jobs.first(most), race, seat)
+}
+
+/// Works as many of these jobs to their ends in one call as it can, from the first on. Gives how many; 0 where the first one has to be worked
+/// alone. Required: there is a job.
+fn work_first<T: SubTable, G: Gate>(
+    shard: &mut Shard<T>,
+    seat: &mut ShardSeat,
+    cells: &Cells,
+    gate: &G,
+    jobs: &JobSlice<'_>,
+) -> usize
+    requires race { seat.old.race ≡ cells.now }
+    requires some { 0 < length jobs.now }
+    requires seen { HasTurn seat.old.part }
+    requires finished { seat.old.part.finished ≡ shard.old.state.finished }
+    requires next { seat.old.part.next ≡ 0 }
+    ensures race { seat.new.race ≡ seat.old.race }
+    ensures works { WorksFirst jobs.now result shard.old.state seat.old.part shard.new.state
+        seat.new.part }
+{
+    if jobs.get(0).queues().as_slice().is_empty() {
+        return work_plain(shard, seat, cells, jobs);
+    }
+    work_claimed(shard, seat, &GatedCells { cells, gate }, jobs)
+}
+
+/// That the queue name of this index was tried, whether it was won, and which message was placed then.
+fn note_claim(tape: &mut Tape<ShardEntry>, index: u64, won: bool, placed: Option<Placed>)
+    ensures { Grows tape.old (claim_entry index won placed ∷ []) tape.new }
+{
+    if !tape.is_kept() {
+        return;
+    }
+    tape.note(ShardEntry {
+        event: ShardEvent::Claim { index, won, placed },
+        told: ShardTold::Work,
+    });
+}
+
+/// That the job in hand was ended.
+fn note_end(tape: &mut Tape<ShardEntry>)
+    ensures { Grows tape.old (end_entry ∷ []) tape.new }
+{
+    if !tape.is_kept() {
+        return;
+    }
+    tape.note(ShardEntry {
+        event: ShardEvent::End,
+        told: ShardTold::Work,
+    });
+}
+
+/// That this job was dropped, which had been begun, or waited.
+fn note_drop(tape: &mut Tape<ShardEntry>, job: Job, waited: bool)
+    ensures { Grows tape.old (drop_entry (cond waited (Some job) None) (Some job) ∷ []) tape.new }
+{
+    if !tape.is_kept() {
+        return;
+    }
+    let turn = job.turn;
+    tape.note(ShardEntry {
+        event: ShardEvent::DropJob(waited.then_some(job)),
+        told: ShardTold::Dropped(Some(turn)),
+    });
+}
+
+/// That there was no job to drop.
+fn note_no_job(tape: &mut Tape<ShardEntry>)
+    ensures { Grows tape.old (refused_entry (DropJob None) NoJob ∷ []) tape.new }
+{
+    if !tape.is_kept() {
+        return;
+    }
+    tape.note(ShardEntry {
+        event: ShardEvent::DropJob(None),
+        told: ShardTold::Refused(ShardFault::NoJob),
+    });
+}
+
 /// Writes down that the job in hand was begun, and which messages were placed then. Nothing where none is in hand.
 fn note_begun<T: SubTable>(tape: &mut Tape<ShardEntry>, shard: &Shard<T>, placed: Placements)
     ensures { (job : _)
         → shard.now.state.hand ≡ Some job
         → Grows tape.old (begin_entry job placed ∷ []) tape.new }
 {
-    if let Some(job) = shard.hand() {
-        note_begin(tape, job, placed);
+    if !tape.is_kept() {
+        return;
     }
+    let Some(job) = shard.hand() else { return };
+    let Ok(job) = job.try_clone() else {
+        tape.give_up();
+        return;
+    };
+    tape.note(ShardEntry {
+        event: ShardEvent::Begin { job, placed },
+        told: ShardTold::Work,
+    });
 }
 
 impl<T: SubTable, N: NodeName> ShardState<T, N> {
@@ -556,7 +778,15 @@ impl<T: SubTable, N: NodeName> ShardState<T, N> {
         ensures popped { result.1.popped ≡ self.popped }
         ensures done { HasDone N.race.shards self }
     {
-        let ShardState { seat, lane, .. } = self;
+        let ShardState {
+            alloc: _,
+            shard: _,
+            seat,
+            lane,
+            waits: _,
+            next_index: _,
+            of: _,
+        } = self;
         (seat, lane)
     }
 }

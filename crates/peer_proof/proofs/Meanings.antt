@@ -1,9 +1,9 @@
 -- What is authenticated is read in one way.
 use Rattle.std.proofs.Common.{◌≡◌, ◌≢◌, ℕ, List, [], ◌∷◌, ◌++◌, length, take, drop, refl, sym, ap, ◌∙◌, append_assoc}
 use Rattle.std.proofs.Math.Seq.{drop-append_seam, take-append_seam}
-use Rattle.peer_proof.specs.declared.parties.Role.{Role}
-use Rattle.peer_proof.specs.declared.parties.Role.TheVariants.{Dialer, Acceptor}
-use Rattle.peer_proof.specs.declared.parties.Parties.{Parties}
+use Rattle.peer_proof.specs.declared.handshake.Role.{Role}
+use Rattle.peer_proof.specs.declared.handshake.Role.TheVariants.{Dialer, Acceptor}
+use Rattle.peer_proof.specs.declared.handshake.Parties.{Parties}
 use Rattle.peer_proof.specs.Messages.{message_of, part, role_word}
 
 head_of : List ℕ → ℕ

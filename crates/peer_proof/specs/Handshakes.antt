@@ -3,19 +3,19 @@ use Rattle.std.specs.Prelude.{ℕ, Bool, true, false, List, Option, Some, None, 
 use Rattle.std.specs.List.{position}
 use Rattle.std.specs.Str.{bytes_eq}
 use Rattle.subj.specs.Servers.{ServerIdentity, is_peer, own_name}
-use Rattle.peer_proof.specs.declared.faults.ProofFault.{ProofFault}
-use Rattle.peer_proof.specs.declared.faults.ProofFault.TheVariants.{NoHello, NotForMe, NotInMesh, NoProof, WrongProof}
-use Rattle.peer_proof.specs.declared.words.FreshWord.{FreshWord}
-use Rattle.peer_proof.specs.declared.words.Mac.{Mac}
-use Rattle.peer_proof.specs.declared.parties.Role.TheVariants as role
-use Rattle.peer_proof.specs.declared.parties.Parties.{Parties}
+use Rattle.peer_proof.specs.declared.handshake.ProofFault.{ProofFault}
+use Rattle.peer_proof.specs.declared.handshake.ProofFault.TheVariants.{NoHello, NotForMe, NotInMesh, NoProof, WrongProof}
+use Rattle.peer_proof.specs.declared.lines.FreshWord.{FreshWord}
+use Rattle.peer_proof.specs.declared.lines.Mac.{Mac}
+use Rattle.peer_proof.specs.declared.handshake.Role.TheVariants as role
+use Rattle.peer_proof.specs.declared.handshake.Parties.{Parties}
 use Rattle.peer_proof.specs.declared.lines.Hello.{Hello}
 use Rattle.peer_proof.specs.declared.lines.Answer.{Answer}
-use Rattle.peer_proof.specs.declared.dialer.Dialer.{Dialer}
-use Rattle.peer_proof.specs.declared.acceptor.Acceptor.{Acceptor}
-use Rattle.peer_proof.specs.declared.acceptor.Acceptor.TheVariants as acceptor
-use Rattle.peer_proof.specs.declared.acceptor.Heard.{Heard}
-use Rattle.peer_proof.specs.declared.acceptor.Heard.TheVariants as heard
+use Rattle.peer_proof.specs.declared.handshake.Dialer.{Dialer}
+use Rattle.peer_proof.specs.declared.handshake.Acceptor.{Acceptor}
+use Rattle.peer_proof.specs.declared.handshake.Acceptor.TheVariants as acceptor
+use Rattle.peer_proof.specs.declared.handshake.Heard.{Heard}
+use Rattle.peer_proof.specs.declared.handshake.Heard.TheVariants as heard
 use Rattle.peer_proof.specs.Lines.{hello_of, answer_of, proof_of}
 use Rattle.peer_proof.specs.Messages.{mac_of}
 

@@ -1,7 +1,7 @@
 -- HMAC-SHA256: RFC 2104 over the hash of FIPS 180-4. A key and a message are lists of bytes.
 use Rattle.std.specs.Prelude.{ℕ, ◌-◌, nat_lt, List, ◌++◌, length, map, replicate, bit_xor, if◌then◌else◌}
 use Rattle.sha2.specs.Sha256.{sha256}
-use Rattle.peer_proof.specs.declared.hmac.TheConstants.{BLOCK, INNER_PAD, OUTER_PAD}
+use Rattle.peer_proof.specs.declared.secret.TheConstants.{BLOCK, INNER_PAD, OUTER_PAD}
 
 -- step 1: zeros are appended to the key up to the length of a block
 abbrev pub zeros_behind : List ℕ → List ℕ

@@ -1,8 +1,8 @@
 -- What the definitions come to.
 use Rattle.std.specs.Prelude.{◌≡◌, ◌≢◌}
-use Rattle.peer_proof.specs.declared.parties.Role.{Role}
-use Rattle.peer_proof.specs.declared.parties.Role.TheVariants.{Dialer, Acceptor}
-use Rattle.peer_proof.specs.declared.parties.Parties.{Parties}
+use Rattle.peer_proof.specs.declared.handshake.Role.{Role}
+use Rattle.peer_proof.specs.declared.handshake.Role.TheVariants.{Dialer, Acceptor}
+use Rattle.peer_proof.specs.declared.handshake.Parties.{Parties}
 use Rattle.peer_proof.specs.Messages.{message_of}
 
 abbrev pub HasOneMeaning : Type 0

@@ -6,7 +6,7 @@ use Rattle.subj.specs.declared.faults.NameFault.{NameFault}
 use Rattle.subj.specs.Names.{node_name_fault}
 use Rattle.peer_proof.specs.declared.lines.Hello.{Hello}
 use Rattle.peer_proof.specs.declared.lines.Answer.{Answer}
-use Rattle.peer_proof.specs.declared.words.Mac.{Mac}
+use Rattle.peer_proof.specs.declared.lines.Mac.{Mac}
 use Rattle.peer_proof.specs.Words.{word_in}
 
 -- ---- what is written

@@ -1,8 +1,8 @@
 -- What is authenticated. (Profile.)
 use Rattle.std.specs.Prelude.{ℕ, List, ◌∷◌, ◌++◌, length, codes}
-use Rattle.peer_proof.specs.declared.parties.Role.{Role}
-use Rattle.peer_proof.specs.declared.parties.Role.TheVariants.{Dialer, Acceptor}
-use Rattle.peer_proof.specs.declared.parties.Parties.{Parties}
+use Rattle.peer_proof.specs.declared.handshake.Role.{Role}
+use Rattle.peer_proof.specs.declared.handshake.Role.TheVariants.{Dialer, Acceptor}
+use Rattle.peer_proof.specs.declared.handshake.Parties.{Parties}
 use Rattle.peer_proof.specs.Hmac.{hmac_of_block}
 
 abbrev pub role_word : Role → List ℕ

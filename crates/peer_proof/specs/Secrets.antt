@@ -1,7 +1,7 @@
 -- What a secret is. (Profile.)
 use Rattle.std.specs.Prelude.{ℕ, ◌-◌, nat_lt, nat_eq, List, length, take, slice_index, Option, Some, None, if◌then◌else◌}
-use Rattle.peer_proof.specs.declared.faults.SecretFault.{SecretFault}
-use Rattle.peer_proof.specs.declared.faults.SecretFault.TheVariants.{TooShort, TooLong}
+use Rattle.peer_proof.specs.declared.secret.SecretFault.{SecretFault}
+use Rattle.peer_proof.specs.declared.secret.SecretFault.TheVariants.{TooShort, TooLong}
 use Rattle.peer_proof.specs.declared.secret.TheConstants.{LEAST_SECRET, MOST_SECRET}
 
 -- a single line feed at the end of a file is not part of its secret

@@ -3,7 +3,7 @@ use Rattle.std.specs.Prelude.{ℕ, List, Option, Some, None, Result, Ok, Err, if
 use Rattle.std.specs.Str.{bytes_eq}
 use Rattle.hex.specs.declared.error.FromHexError.{FromHexError}
 use Rattle.hex.specs.Hex.{encode_lower, decode_sized}
-use Rattle.peer_proof.specs.declared.words.TheConstants.{WORD}
+use Rattle.peer_proof.specs.declared.lines.TheConstants.{WORD}
 
 -- the word that was decoded, where these are the digits that it is written with
 abbrev pub word_by : List ℕ → Result (List ℕ) FromHexError → Option (List ℕ)

@@ -6,7 +6,7 @@ use Rattle.atomic_table.specs.Seated.{TableId}
 use Rattle.claim_cells.specs.Rule.{At, newcomer}
 use Rattle.claim_cells.specs.Seats.{RaceId, HubShown}
 use Rattle.subj.specs.Servers.{ServerIdentity}
-use Rattle.thread_node.specs.declared.parts.ShardParts.{ShardParts}
+use Rattle.thread_node.specs.declared.node.ShardParts.{ShardParts}
 use Rattle.thread_node.specs.Parts.{AreFresh, IsNamed}
 
 -- the element at a place, whatever f reads of it

@@ -6,7 +6,7 @@ use Rattle.claim_cells.specs.Rule.{newcomer, fresh_hub}
 use Rattle.claim_cells.specs.Seats.{RaceId, HubShown}
 use Rattle.job_lane.specs.Ends.{Writer, Reader}
 use Rattle.subj.specs.Servers.{ServerIdentity}
-use Rattle.thread_node.specs.declared.parts.ShardParts.{ShardParts}
+use Rattle.thread_node.specs.declared.node.ShardParts.{ShardParts}
 
 -- the server, its race and its lanes, and whether what its calls answer is kept in writing
 pub record Given : Type 0 where

@@ -10,7 +10,6 @@ use subj::{ConnId, Finished, Pub, Turn};
 ///
 /// Peers are named by their places in the cluster, from 0. What crosses a lock comes along: the last turns that the
 /// shards finished, as the hub had loaded them last, or a shard's deltas.
-#[derive(Drop)]
 pub enum HubEvent {
     /// A client published, on the connection of this number; the word decided who serves each queue name.
     Publish {
@@ -56,6 +55,41 @@ pub enum HubEvent {
     Cut {
         session: SessionId,
     },
+}
+
+/// By hand, so that it is one call: a derived drop is spelt out, and proved, wherever one goes out of scope.
+impl Drop for HubEvent {
+    #[inline(always)]
+    fn drop(self) {
+        match self {
+            HubEvent::Publish {
+                conn: _,
+                publication: _,
+                word: _,
+                finished: _,
+            } => {}
+            HubEvent::Receive {
+                frame: _,
+                finished: _,
+            } => {}
+            HubEvent::Collect {
+                shard: _,
+                deltas: _,
+            } => {}
+            HubEvent::Drain | HubEvent::Accept => {}
+            HubEvent::TakeFrames { peer: _, count: _ } => {}
+            HubEvent::Dial { peer: _ } => {}
+            HubEvent::Info {
+                session: _,
+                info: _,
+            } => {}
+            HubEvent::Connect {
+                session: _,
+                connect: _,
+            } => {}
+            HubEvent::Cut { session: _ } => {}
+        }
+    }
 }
 
 /// What a hub or its sessions answered: values, and of lists how long they are. (Profile.)

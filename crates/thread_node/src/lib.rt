@@ -8,10 +8,9 @@
 //! let (hub, shards) = node.into_locked();
 //! ```
 //!
-//! In reading order: `parts` is what a server is made of, `locked_hub` and `locked_shard` what stands under its
-//! locks, `node` the server with its locks and its threads, `drains` how all of it drains, and `serving` the calls
-//! that the connections of a server make while a lock is held. What is written down under a lock is `keeping` and
-//! `hub_entries`, and `told_calls` what is of an answer or a refusal.
+//! In reading order: `locked` is what stands under the locks, `node` the server: what it is made of, its locks and its threads, and how all of it
+//! drains; and `serving` are the calls that the connections of a server make while a lock is held. What is written down under a lock is `keeping`, of
+//! the entries in `hub_entries` and in `node_threads`.
 //!
 //! No call here tells a caller's pass, and none ends a server with a report: `thread_report` does, above the same
 //! locks. It takes what it needs from here: the place of an entry on its tape (`entries_kept`), what is told of an answer,
@@ -19,30 +18,23 @@
 //! server it is of (`into_parts`).
 #![tactic(auto)]
 
-mod drains;
 mod hub_entries;
 mod keeping;
-mod locked_hub;
-mod locked_shard;
+mod locked;
 mod node;
-mod parts;
 mod serving;
-mod told_calls;
 
-pub use drains::drain_shards;
 pub use hub_entries::{HubEntry, HubEvent, HubTold};
-pub use keeping::copy_of_pub;
-pub use locked_hub::LockedHub;
-pub use locked_shard::LockedShard;
+pub use keeping::{
+    copy_of_pub, told_accepted, told_attached, told_collected, told_connected, told_cut,
+    told_detached, told_dialed, told_drained, told_dropped, told_frames, told_headers,
+    told_hub_drained, told_info, told_issued, told_received, told_replied, told_shut,
+    told_subscribed, told_taken, told_unsubscribed,
+};
+pub use locked::{LockedHub, LockedShard};
 pub use node::{
-    HubSection, NO_SHARD, ShardSection, ThreadNode, answered_by_hub, answered_by_shard,
+    HubSection, NO_SHARD, Parts, ShardSection, ThreadNode, answered_by_hub, answered_by_shard,
+    drain_shards,
 };
 pub use node_threads::{Deltas, Gate, NodeName, Open, ShardEntry, ShardEvent, ShardTold, Turned};
-pub use parts::Parts;
 pub use serving::{HeldHub, HeldShard};
-pub use told_calls::{
-    told_accepted, told_attached, told_collected, told_connected, told_cut, told_detached,
-    told_dialed, told_drained, told_dropped, told_frames, told_headers, told_hub_drained,
-    told_info, told_issued, told_received, told_replied, told_shut, told_subscribed, told_taken,
-    told_unsubscribed,
-};

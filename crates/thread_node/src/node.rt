@@ -1,36 +1,170 @@
-//! A hub and its shards, each under a lock of its own: the calls that take a lock, make one call and give its answer, and the
-//! threads that work lanes.
+//! A server on threads: what it is made of, its hub and its shards, each under a lock of its own, the calls that take a lock, make one call and give its
+//! answer, how all of it drains, and the threads that work lanes.
 
-ghost use Rattle.std.specs.Prelude.{◌≡◌, ◌+◌, ◌≤◌, ◌<◌, [], All, length, vec_len, IfOk, IfSome, OnOk, is_some, true};
+ghost use Rattle.std.specs.Prelude.{◌≡◌, ◌+◌, ◌≤◌, ◌<◌, [], All, map, length, vec_len, IfOk, IfSome, OnOk, is_some, true};
 ghost use Rattle.std.specs.Arc.{arc_value};
 ghost use Rattle.subj.specs.declared.limits.TheConstants.{MAX_SHARDS};
-ghost use Rattle.thread_node.specs.Parts.{IsNamed};
 ghost use Rattle.claim_cells.specs.Rule.{fresh_hub};
-ghost use Rattle.thread_node.specs.Refusing.{AnswersAt, DecidesAt, at_server, has_conn, has_shard, is_own};
 ghost use Rattle.node_law.specs.declared.faults.NodeFault.TheVariants.{Hub, Shard};
+ghost use Rattle.thread_node.specs.Drains.{DrainsAll, hub_failure};
+ghost use Rattle.thread_node.specs.Parts.{AreFresh, IsFreshLane, IsNamed};
+ghost use Rattle.thread_node.specs.Refusing.{AnswersAt, DecidesAt, at_server, has_conn, has_shard, is_own};
 
-use crate::drains::drain_shards;
-use crate::locked_hub::LockedHub;
-use crate::locked_shard::LockedShard;
-use crate::parts::{Parts, ShardParts};
-use claim_cells::{Cells, HubSeat};
+use crate::locked::{LockedHub, LockedShard};
+use claim_cells::{Cells, HubSeat, ShardSeat};
 use client_frames::{ErrText, ReplyFrame};
 use crossbeam_utils::sync::{Parker, Unparker};
 use hub_core::{CollectResult, HubFault};
+use job_lane::{LANE_CAPACITY, LaneIn, LaneOut, lane};
 use node_law::NodeFault;
-use node_parts::{Issued, Received, place_of_conn, place_of_shard};
+use node_parts::{Issued, place_of_conn, place_of_shard};
 use node_threads::{Gate, HubState, LaneSender, NodeName, ShardState, Turned};
 use outbox::Entry;
-use route_session::{Kept, SessionFault, SessionId};
-use route_values::{Numbered, RouteConnect, RouteInfo};
 use shard_core::{Closed, ShardFault, Subscribed};
 use std::alloc::{AllocError, Global};
+use std::marker::Model;
 use std::sync::atomic::{AtomicBool, Ordering};
 use std::sync::{Arc, Mutex, MutexGuard, Wait};
 use std::thread;
 use std::thread::Threads;
 use sub_table::SubTable;
 use subj::{ConnId, Failure, Key, Pub, ServerIdentity, Sid, SubId, Turn};
+
+/// What a shard has: its seat at the race, and both ends of its lane.
+#[derive(Drop)]
+pub(crate) struct ShardParts {
+    pub seat: ShardSeat,
+    pub near: LaneIn,
+    pub far: LaneOut,
+}
+
+/// What a server on threads is made of: the race of its shards with all seats, a lane for each shard, and
+/// what wakes each shard's worker. (Profile.)
+///
+/// Seen as the server, its race, its lanes, that of shard 1 first, and whether what it does is to be
+/// written down.
+#[derive(Drop)]
+pub struct Parts {
+    pub(crate) server: ServerIdentity,
+    pub(crate) keep: bool,
+    pub(crate) cells: Cells,
+    pub(crate) hub: HubSeat,
+    pub(crate) shards: Vec<ShardParts>,
+    pub(crate) unparkers: Vec<Unparker>,
+}
+
+impl Model for Parts {
+    ghost use Rattle.std.specs.Prelude.{map};
+    ghost use Rattle.thread_node.specs.Parts.{Given, AreFresh};
+
+    ghost Value = { Given };
+
+    ghost view = { λ p. record {
+      server = p.server;
+      race = p.cells;
+      lanes = map (λ s. s.near.lane) p.shards.items;
+      keep = p.keep;
+    } };
+
+    ghost invariant = { λ p. AreFresh p.server p.cells p.hub p.shards.items };
+}
+
+/// What a shard with this seat has: a new lane comes with it.
+fn shard_part(alloc: Global, seat: ShardSeat) -> Result<ShardParts, AllocError>
+    ensures { IfOk result (λ part. (part.seat ≡ seat) × IsFreshLane part.near part.far) }
+{
+    let (near, far) = lane(alloc, LANE_CAPACITY)?;
+    Ok(ShardParts { seat, near, far })
+}
+
+/// A seat and a new lane for each shard, in their order.
+fn shard_parts(alloc: Global, seats: Vec<ShardSeat>) -> Result<Vec<ShardParts>, AllocError>
+    ensures { IfOk result (λ shards.
+        (map (λ p. p.seat) shards.items ≡ seats.items)
+        × All (λ p. IsFreshLane p.near p.far) shards.items) }
+{
+    let mut shards = Vec::with_capacity(alloc, seats.len())?;
+    for seat in seats {
+        let part = shard_part(alloc, seat)?;
+        shards.push(part)?;
+    }
+    Ok(shards)
+}
+
+/// The race of a server that has done nothing: its cells, the hub's seat, and what each shard has, in their order.
+fn fresh_race(
+    alloc: Global,
+    server: &ServerIdentity,
+) -> Result<(Cells, HubSeat, Vec<ShardParts>), AllocError>
+    ensures { IfOk result (λ made. AreFresh server.now made.0 made.1 made.2.items) }
+{
+    let (cells, hub, seats) = Cells::new(alloc, server.shards())?;
+    let shards = shard_parts(alloc, seats)?;
+    Ok((cells, hub, shards))
+}
+
+/// A parker for each shard.
+fn parkers(alloc: Global, shards: u64) -> Result<Vec<Parker>, AllocError> {
+    let mut parkers = Vec::new(alloc);
+    for _shard in 0..shards {
+        parkers.push(Parker::new(alloc)?)?;
+    }
+    Ok(parkers)
+}
+
+/// What wakes each of these, in their order.
+fn unparkers_of(alloc: Global, parkers: &[Parker]) -> Result<Vec<Unparker>, AllocError> {
+    let mut unparkers = Vec::new(alloc);
+    for parker in parkers {
+        unparkers.push(parker.unparker().clone()?)?;
+    }
+    Ok(unparkers)
+}
+
+impl Parts {
+    /// The parts of this server, which has done nothing, and a parker for the worker of each shard, that of
+    /// shard 1 first. `keep` says whether what is done under its locks is to be written down: each step then takes
+    /// memory, for as long as the server lives, and stands on the tapes of what [`ThreadNode::into_locked`](crate::ThreadNode::into_locked) gives.
+    pub fn new(
+        alloc: Global,
+        server: ServerIdentity,
+        keep: bool,
+    ) -> Result<(Parts, Vec<Parker>), AllocError>
+        ensures { IfOk result (λ made. (made.0.server ≡ server) × (made.0.keep ≡ keep)) }
+    {
+        let parkers = parkers(alloc, server.shards())?;
+        let parts = Parts::woken_by(alloc, server, keep, parkers.as_slice())?;
+        Ok((parts, parkers))
+    }
+
+    /// The parts of this server, whose workers sleep on these parkers.
+    fn woken_by(
+        alloc: Global,
+        server: ServerIdentity,
+        keep: bool,
+        parkers: &[Parker],
+    ) -> Result<Parts, AllocError>
+        ensures { IfOk result (λ parts. (parts.server ≡ server) × (parts.keep ≡ keep)) }
+    {
+        let unparkers = unparkers_of(alloc, parkers)?;
+        let (cells, hub, shards) = fresh_race(alloc, &server)?;
+        Ok(Parts {
+            server,
+            keep,
+            cells,
+            hub,
+            shards,
+            unparkers,
+        })
+    }
+
+    /// How many shards the server has, from 1.
+    pub fn shards(&self) -> u64
+        ensures { result ≡ self.now.server.shards }
+    {
+        self.server.shards()
+    }
+}
 
 /// The hub's lock, held.
 pub type HubSection<'a, N> = MutexGuard<'a, LockedHub<N>>;
@@ -43,7 +177,6 @@ pub type ShardSection<'a, T, N> = MutexGuard<'a, LockedShard<T, N>>;
 /// The hub and each shard stand under a lock of their own. [`ThreadNode::hub`] and [`ThreadNode::shard`]
 /// hold one of them for many calls; each other call takes its lock, makes that one call, and gives its
 /// answer. Whoever holds locks of both kinds has taken the hub's first, and no two shards' at once.
-#[derive(Drop)]
 pub struct ThreadNode<T: SubTable, N: NodeName> {
     hub: Mutex<LockedHub<N>>,
     shards: Vec<Mutex<LockedShard<T, N>>>,
@@ -54,28 +187,20 @@ pub struct ThreadNode<T: SubTable, N: NodeName> {
     ghost all: { vec_len shards ≡ N.race.shards },
 }
 
-/// One shard of these parts, of so many: the hub's end of its lane, and the shard under its lock.
-fn locked_shard<T: SubTable, N: NodeName>(
-    alloc: Global,
-    cells: &Arc<Cells, Global>,
-    count: u64,
-    keep: bool,
-    parts: ShardParts,
-) -> Result<(LaneSender<N>, Mutex<LockedShard<T, N>>), AllocError>
-    requires race { (arc_value cells.now ≡ N.race) × (count ≡ N.race.shards) }
-    requires few { count ≤ MAX_SHARDS }
-    requires parts { IsNamed N.race N.lanes parts }
-    ensures { IfOk result (λ made. made.0.pushed ≡ []) }
-{
-    let cells = Arc::try_clone(cells)?;
-    let ShardParts { seat, near, far } = parts;
-    let line = LaneSender::new(seat.shard(), near);
-    let state = ShardState::new(alloc, seat, count, far)?;
-    let shard = LockedShard::new(alloc, state, cells, keep);
-    Ok((line, Mutex::new(shard)))
+/// By hand, so that it is one call: a derived drop is spelt out, and proved, wherever one goes out of scope.
+impl<T: SubTable, N: NodeName> Drop for ThreadNode<T, N> {
+    fn drop(self) {
+        let ThreadNode {
+            hub: _,
+            shards: _,
+            unparkers: _,
+            stopped: _,
+            keep: _,
+        } = self;
+    }
 }
 
-/// Puts the hub's end of the lane of these parts behind the others, and the shard under its lock.
+/// Puts the hub's end of the lane of these parts behind the others, and the shard under its lock, of so many.
 fn add_shard<T: SubTable, N: NodeName>(
     alloc: Global,
     cells: &Arc<Cells, Global>,
@@ -93,9 +218,13 @@ fn add_shard<T: SubTable, N: NodeName>(
     ensures fresh { OnOk result (All (λ line. line.pushed ≡ []) lines.old.items
         → All (λ line. line.pushed ≡ []) lines.new.items) }
 {
-    let (line, shard) = locked_shard(alloc, cells, count, keep, parts)?;
+    let ShardParts { seat, near, far } = parts;
+    let line = LaneSender::new(seat.shard(), near);
     lines.push(line)?;
-    shards.push(shard)?;
+    let cells = Arc::try_clone(cells)?;
+    let state = ShardState::new(alloc, seat, count, far)?;
+    let shard = LockedShard::new(alloc, state, cells, keep);
+    shards.push(Mutex::new(shard))?;
     Ok(())
 }
 
@@ -168,6 +297,45 @@ fn locked<T: SubTable, N: NodeName>(
     let (lines, shards) = locked_shards(alloc, &cells, count, keep, parts)?;
     let hub = locked_hub(alloc, server, cells, seat, keep, lines)?;
     Ok((hub, shards))
+}
+
+/// Why the hub does not drain, as its server tells it.
+fn failure_of_hub(failure: Failure<HubFault>) -> Failure<NodeFault>
+    ensures { result ≡ hub_failure failure }
+{
+    match failure {
+        Failure::Refused(fault) => Failure::Refused(NodeFault::Hub(fault)),
+        Failure::OutOfMemory => Failure::OutOfMemory,
+    }
+}
+
+/// Drains each shard, from the first to the last, where the hub has answered so: the call says whether a shard drains only
+/// now. Those that drain already are passed over. Gives what the hub told, and nothing where it drained already. Refused
+/// with [`HubFault::Draining`] where the hub and all shards did. A hub that is refused for another cause, or that has no
+/// memory, stops it before any shard drains.
+pub fn drain_shards<F: FnMut(u64) -> bool>(
+    told: Result<Vec<usize>, Failure<HubFault>>,
+    shards: u64,
+    mut drain: F,
+) -> Result<Option<Vec<usize>>, Failure<NodeFault>>
+    requires { F.IsAlwaysCallable drain }
+    ensures { DrainsAll F.step drain shards told result }
+{
+    let cut = match told {
+        Ok(cut) => Some(cut),
+        Err(Failure::Refused(HubFault::Draining)) => None,
+        Err(failure) => return Err(failure_of_hub(failure)),
+    };
+    let mut is_new = cut.is_some();
+    for place in 0..shards {
+        if drain(place + 1) {
+            is_new = true;
+        }
+    }
+    if !is_new {
+        return Err(Failure::Refused(NodeFault::Hub(HubFault::Draining)));
+    }
+    Ok(cut)
 }
 
 /// The place of the shard of this number, of so many, where the connection is of that shard.
@@ -336,7 +504,13 @@ impl<T: SubTable, N: NodeName> ThreadNode<T, N> {
     pub fn into_locked(self) -> (LockedHub<N>, Vec<Mutex<LockedShard<T, N>>>)
         ensures { vec_len result.1 ≡ N.race.shards }
     {
-        let ThreadNode { hub, shards, .. } = self;
+        let ThreadNode {
+            hub,
+            shards,
+            unparkers: _,
+            stopped: _,
+            keep: _,
+        } = self;
         (hub.into_inner(), shards)
     }
 
@@ -355,66 +529,6 @@ impl<T: SubTable, N: NodeName> ThreadNode<T, N> {
         drop(hub);
         self.unpark_workers();
         Ok(issued)
-    }
-
-    /// [`HubState::receive`](node_threads::HubState::receive), after which the job of a message is pushed to the lanes and the
-    /// workers are woken. May wait.
-    pub fn receive<R: Wait>(
-        &self,
-        rt: &R,
-        frame: &Numbered,
-    ) -> Result<Received, Failure<HubFault>> {
-        let mut hub = self.hub(rt);
-        let received = hub.receive(frame)?;
-        hub.push_jobs(rt);
-        drop(hub);
-        self.unpark_workers();
-        Ok(received)
-    }
-
-    /// [`HubState::dial`](node_threads::HubState::dial). May wait.
-    pub fn dial<R: Wait>(&self, rt: &R, peer: usize) -> Result<SessionId, Failure<SessionFault>> {
-        self.hub(rt).dial(peer)
-    }
-
-    /// [`HubState::accept`](node_threads::HubState::accept). May wait.
-    pub fn accept<R: Wait>(&self, rt: &R) -> Result<(SessionId, RouteInfo), Failure<SessionFault>> {
-        self.hub(rt).accept()
-    }
-
-    /// [`HubState::info`](node_threads::HubState::info). May wait.
-    pub fn info<R: Wait>(
-        &self,
-        rt: &R,
-        session: SessionId,
-        info: &RouteInfo,
-    ) -> Result<(Kept, RouteConnect), Failure<SessionFault>> {
-        self.hub(rt).info(session, info)
-    }
-
-    /// [`HubState::connect`](node_threads::HubState::connect). May wait.
-    pub fn connect<R: Wait>(
-        &self,
-        rt: &R,
-        session: SessionId,
-        connect: &RouteConnect,
-    ) -> Result<Kept, Failure<SessionFault>> {
-        self.hub(rt).connect(session, connect)
-    }
-
-    /// [`HubState::cut`](node_threads::HubState::cut). May wait.
-    pub fn cut<R: Wait>(&self, rt: &R, session: SessionId) -> Result<Option<usize>, SessionFault> {
-        self.hub(rt).cut(session)
-    }
-
-    /// [`HubState::take_frames`](node_threads::HubState::take_frames). May wait.
-    pub fn take_frames<R: Wait>(
-        &self,
-        rt: &R,
-        peer: usize,
-        count: usize,
-    ) -> Result<Vec<Numbered>, Failure<HubFault>> {
-        self.hub(rt).take_frames(peer, count)
     }
 
     /// [`HubState::collect`](node_threads::HubState::collect), of the shard of this number; the only call that takes two locks, the

@@ -5,15 +5,13 @@ ghost use Rattle.std.specs.Sync.Mutex.{mutex_guard_value};
 ghost use Rattle.thread_node.specs.Held.{came_to, was_decided, was_replied, was_published, was_received, was_turned, not_attached};
 ghost use Rattle.thread_node.specs.Held.{MadeByHub, MadeByShard, RoutedByHub, WorksNext, Takes, Lacks, CollectsAll, WasCollected};
 
-use crate::locked_hub::LockedHub;
-use crate::locked_shard::LockedShard;
+use crate::locked::{LockedHub, LockedShard};
 use crate::node::{HubSection, ShardSection, ThreadNode};
 use client_calls::{ClientCalls, Outcome};
 use client_conn::Refusal;
 use client_frames::{ErrText, ReplyFrame};
 use client_refusals::{refusal_of_hub, refusal_of_shard};
 use hub_core::{CollectResult, HubFault};
-use node_law::NodeFault;
 use node_parts::{Issued, Received};
 use node_threads::{NodeName, Open, Turned};
 use publication_runs::LentRun;
@@ -125,17 +123,6 @@ fn collected<T: SubTable, N: NodeName>(
     }
     match hub.collect(shard) {
         Ok(told) => Ok(Some(told)),
-        Err(Failure::Refused(_)) => Ok(None),
-        Err(Failure::OutOfMemory) => Err(AllocError),
-    }
-}
-
-/// What a drain told: the servers that are cut, or None where it is refused.
-fn drained(
-    told: Result<Option<Vec<usize>>, Failure<NodeFault>>,
-) -> Result<Option<Vec<usize>>, AllocError> {
-    match told {
-        Ok(cut) => Ok(cut),
         Err(Failure::Refused(_)) => Ok(None),
         Err(Failure::OutOfMemory) => Err(AllocError),
     }
@@ -405,6 +392,10 @@ impl<'n, T: SubTable, N: NodeName> ServerCalls for &'n ThreadNode<T, N> {
 
     fn drain<R: Wait>(&self, rt: &R) -> Result<Option<Vec<usize>>, AllocError> {
         let node: &'n ThreadNode<T, N> = *self;
-        drained(node.drain(rt))
+        match node.drain(rt) {
+            Ok(cut) => Ok(cut),
+            Err(Failure::Refused(_)) => Ok(None),
+            Err(Failure::OutOfMemory) => Err(AllocError),
+        }
     }
 }

@@ -47,7 +47,7 @@ fn published<T: SubTable, N: NodeName, R: Wait>(
     (place, done)
 }
 
-/// [`ThreadNode::receive`], with the place that it has under the hub's lock. May wait.
+/// [`LockedHub::receive`], with the place that it has under the hub's lock. May wait.
 fn received<T: SubTable, N: NodeName, R: Wait>(
     rt: &R,
     node: &ThreadNode<T, N>,
@@ -84,7 +84,7 @@ impl<N: NodeName> Pass<N> {
         done
     }
 
-    /// [`ThreadNode::receive`]. May wait.
+    /// [`LockedHub::receive`]. May wait.
     pub fn receive<T: SubTable, R: Wait>(
         &mut self,
         rt: &R,
@@ -102,7 +102,7 @@ impl<N: NodeName> Pass<N> {
         done
     }
 
-    /// [`ThreadNode::dial`]. May wait.
+    /// [`LockedHub::dial`]. May wait.
     pub fn dial<T: SubTable, R: Wait>(
         &mut self,
         rt: &R,
@@ -122,7 +122,7 @@ impl<N: NodeName> Pass<N> {
         done
     }
 
-    /// [`ThreadNode::accept`]. May wait.
+    /// [`LockedHub::accept`]. May wait.
     pub fn accept<T: SubTable, R: Wait>(
         &mut self,
         rt: &R,
@@ -141,7 +141,7 @@ impl<N: NodeName> Pass<N> {
         done
     }
 
-    /// [`ThreadNode::info`]. May wait.
+    /// [`LockedHub::info`]. May wait.
     pub fn info<T: SubTable, R: Wait>(
         &mut self,
         rt: &R,
@@ -168,7 +168,7 @@ impl<N: NodeName> Pass<N> {
         done
     }
 
-    /// [`ThreadNode::connect`]. May wait.
+    /// [`LockedHub::connect`]. May wait.
     pub fn connect<T: SubTable, R: Wait>(
         &mut self,
         rt: &R,
@@ -195,7 +195,7 @@ impl<N: NodeName> Pass<N> {
         done
     }
 
-    /// [`ThreadNode::cut`]. May wait.
+    /// [`LockedHub::cut`]. May wait.
     pub fn cut<T: SubTable, R: Wait>(
         &mut self,
         rt: &R,
@@ -217,7 +217,7 @@ impl<N: NodeName> Pass<N> {
         }
     }
 
-    /// [`ThreadNode::take_frames`]; [`Pass::hub_lists`] has the frames. May wait.
+    /// [`LockedHub::take_frames`]; [`Pass::hub_lists`] has the frames. May wait.
     pub fn take_frames<T: SubTable, R: Wait>(
         &mut self,
         rt: &R,

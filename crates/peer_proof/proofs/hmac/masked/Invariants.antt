@@ -1,5 +1,0 @@
-use Rattle.peer_proof.proofs.Masks.{IsMasked}
-use Rattle.peer_proof.proofs.hmac.masked.Given as goal
-
-abbrev pub invariant-loop-place : goal.invariant-loop-place
-invariant-loop-place l = IsMasked l.bytes l.block l.mask l.place

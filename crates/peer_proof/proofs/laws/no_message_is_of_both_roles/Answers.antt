@@ -1,5 +1,0 @@
-use Rattle.peer_proof.proofs.Meanings.{apart}
-use Rattle.peer_proof.proofs.laws.no_message_is_of_both_roles.Goals as goal
-
-pub returns : goal.returns
-returns c = apart
