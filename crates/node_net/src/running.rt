@@ -4,7 +4,7 @@ use crate::addresses::PeerAddresses;
 use crate::connection::Cause;
 use crate::control::{CONTROL, CONTROL_LINK, Control};
 use crate::faults::AddFault;
-use crate::limits::{ACCEPTS, ASKED_EVERY, EVENTS, RETRY, UNANSWERED};
+use crate::limits::{ACCEPTS, ASKED_EVERY, EVENTS, LOOKS, RETRY, UNANSWERED};
 use crate::peers::{Peers, Redials};
 use crate::server::{Server, Side};
 use crate::shutdown::Shutdown;
@@ -131,6 +131,8 @@ struct Rounds {
     changes: u64,
     /// The connections that are ready.
     ready: Vec<usize>,
+    /// Whether one was ready in the last turn.
+    is_busy: bool,
     /// Whether accepting failed for another cause than that there is none.
     has_failed: bool,
     /// Where operators connect, at one server of the process, and whether something may have come from them.
@@ -193,6 +195,7 @@ impl Rounds {
             redials: Redials::new(alloc),
             changes: 0,
             ready: Vec::new(alloc),
+            is_busy: false,
             has_failed: false,
             control,
             is_controlled: true,
@@ -217,6 +220,20 @@ impl Rounds {
     /// Whether something may be accepted at once.
     fn may_accept(&self) -> bool {
         (self.clients.has_more || self.routes.has_more) && !self.has_failed
+    }
+
+    /// Looks a few times whether a socket is ready, where one was in the last turn. Whether one is.
+    fn look(&mut self, events: &mut Events) -> io::Result<bool> {
+        if !self.is_busy || self.may_accept() {
+            return Ok(false);
+        }
+        for _look in 0..LOOKS {
+            self.poll.poll(events, Some(Duration::from_millis(0)))?;
+            if !events.is_empty() {
+                return Ok(true);
+            }
+        }
+        Ok(false)
     }
 
     /// How long to wait for a socket now, where the next turn of this server is due then; None is for ever.
@@ -407,13 +424,16 @@ impl<C: ServerCalls> Server<TcpStream, C> {
         let next_turn = self.next_turn();
         let now = self.connections.now;
         let patience = rounds.patience(now, next_turn, &self.peers, &self.life);
-        rounds.poll.poll(events, patience)?;
+        if !rounds.look(events)? {
+            rounds.poll.poll(events, patience)?;
+        }
         self.set_time(rounds.time(rt)?);
         for event in &*events {
             if rounds.is_of_connection(event.token()) {
                 self.note_ready(event, rounds)?;
             }
         }
+        rounds.is_busy = !rounds.ready.is_empty();
         Ok(())
     }
 
