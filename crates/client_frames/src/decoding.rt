@@ -311,11 +311,6 @@ impl SharedTexts {
         self.is_again
     }
 
-    /// The subject that is kept, where one is.
-    pub fn last_subject(&self) -> Option<&Subject> {
-        self.last_subject.as_ref()
-    }
-
     /// Keeps a subject that is not used any more: where the next line names the same one, its text is not copied again.
     pub fn keep(&mut self, subject: Subject) {
         self.last_subject = Some(subject);

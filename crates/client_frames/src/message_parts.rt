@@ -12,7 +12,7 @@ use crate::encoding::{
 use line_fields::{CR_LF, append_reserved};
 use std::alloc::{AllocError, Global};
 use std::marker::Model;
-use subj::{MAX_PAYLOAD, MAX_SID, MAX_SUBJECT, Message, Sid, Subject};
+use subj::{LentSubject, MAX_PAYLOAD, MAX_SID, MAX_SUBJECT, Message, Sid};
 
 /// The most bytes of the first part.
 pub const MAX_HEAD: usize = HMSG.len() + MAX_SUBJECT + BLANK.len() + MAX_SID;
@@ -22,7 +22,11 @@ pub const MAX_TAIL: usize = MAX_BEHIND + CR_LF.len() + MAX_PAYLOAD + CR_LF.len()
 
 /// The line of a message of this subject up to the id of a subscription and with it, as it is in front of a header block. Without its
 /// first byte it is the line in front of none. (NATS documentation, "Client Protocol": `HMSG` and `MSG`.)
-pub fn message_head(alloc: Global, subject: &Subject, sid: &Sid) -> Result<Vec<u8>, AllocError>
+pub fn message_head(
+    alloc: Global,
+    subject: &LentSubject<'_>,
+    sid: &Sid,
+) -> Result<Vec<u8>, AllocError>
     ensures same { IfOk result (λ head. head.items ≡ head_bytes subject.now sid.now) }
     ensures some { IfOk result (λ head. 1 ≤ length head.items) }
     ensures fits { IfOk result (λ head. length head.items ≤ MAX_HEAD) }

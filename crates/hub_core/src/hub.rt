@@ -36,8 +36,8 @@ use route_values::{Body, Numbered, SnapshotKeys};
 use std::alloc::{AllocError, Global};
 use std::marker::Model;
 use subj::{
-    Busy, ConnId, Delta, Failure, Finished, Incarnation, Job, MAX_COUNTER, NodeId, Pub, PubId,
-    QueueNames, ServerIdentity, Subject, Turn, WINDOW,
+    Busy, ConnId, Delta, Failure, Finished, Incarnation, Job, LentSubject, MAX_COUNTER, NodeId,
+    Pub, PubId, QueueNames, ServerIdentity, Subject, Turn, WINDOW,
 };
 
 /// The hub of a server. (Profile.)
@@ -408,13 +408,13 @@ impl Hub {
         if let Err(fault) = self.next_turn(finished) {
             return Some(fault);
         }
-        let subject = publication.message.subject();
+        let subject = publication.message.subject().lent();
         let mut names = FoundNames::new();
         match gather_names(
             &self.server,
             self.counts.counts(),
             &self.peers,
-            subject,
+            &subject,
             &mut names,
         ) {
             Ok(()) => None,
@@ -577,13 +577,13 @@ impl Hub {
             plan.job plan.frames.items)
             ⊤ result }
     {
-        let subject = publication.message.subject();
+        let subject = publication.message.subject().lent();
         let servers = servers_for(
             self.alloc,
             &self.server,
             self.counts.counts(),
             &self.peers,
-            subject,
+            &subject,
             word,
             names,
         )?;
@@ -612,13 +612,13 @@ impl Hub {
             plan.job plan.frames.items)
             ⊤ result }
     {
-        let subject = publication.message.subject();
+        let subject = publication.message.subject().lent();
         let mut names = FoundNames::new();
         match gather_names(
             &self.server,
             self.counts.counts(),
             &self.peers,
-            subject,
+            &subject,
             &mut names,
         ) {
             Ok(()) => self.plan_split(turn, conn, publication, word, &names),
@@ -697,7 +697,7 @@ impl Hub {
     }
 
     /// Whether some queue name wants the subject.
-    pub(crate) fn is_named(&self, subject: &Subject) -> bool
+    pub(crate) fn is_named(&self, subject: &LentSubject<'_>) -> bool
         ensures { result ≡ false → wanted_names self.now.server self.now.state subject.now ≡ [] }
     {
         is_name_wanted(&self.server, &self.counts, &self.peers, subject)
@@ -729,7 +729,7 @@ impl Hub {
         if let Some(names) = self.names_alone(subject) {
             return self.plan_alone(turn, conn, publication, names);
         }
-        if self.is_named(subject) {
+        if self.is_named(&subject.lent()) {
             // bound first: the plan of most publications is then built where it goes, and not moved there
             let plan = self.plan_named(turn, conn, publication, word);
             return plan;

@@ -8,10 +8,15 @@ ghost use Rattle.hub_core.specs.Local.{OwesLocalJob, wants_plain_from};
 use crate::hub::Hub;
 use crate::peers::Peer;
 use crate::publishing::{is_alone, is_eligible};
-use subj::{QueueName, QueueNames, ServerIdentity, Subject};
+use subj::{LentSubject, QueueNames, ServerIdentity};
 
 /// Whether the peer is eligible, and has a plain key that matches the subject.
-fn wants_plain(server: &ServerIdentity, place: usize, peer: &Peer, subject: &Subject) -> bool
+fn wants_plain(
+    server: &ServerIdentity,
+    place: usize,
+    peer: &Peer,
+    subject: &LentSubject<'_>,
+) -> bool
     ensures { result
         ≡ (eligible server.now place peer.now
         && has_plain_match subject.now peer.now.heard.keys) }
@@ -20,7 +25,7 @@ fn wants_plain(server: &ServerIdentity, place: usize, peer: &Peer, subject: &Sub
 }
 
 /// Whether some eligible peer has a plain key that matches the subject. Takes no memory.
-fn is_wanted_elsewhere(server: &ServerIdentity, peers: &[Peer], subject: &Subject) -> bool
+fn is_wanted_elsewhere(server: &ServerIdentity, peers: &[Peer], subject: &LentSubject<'_>) -> bool
     ensures { result ≡ wants_plain_from server.now subject.now 0 peers.now }
 {
     for (place, peer) in peers.iter().enumerate() {
@@ -31,33 +36,11 @@ fn is_wanted_elsewhere(server: &ServerIdentity, peers: &[Peer], subject: &Subjec
     false
 }
 
-/// Whether it is the same queue name.
-fn is_same(a: &QueueName, b: &QueueName) -> bool
-    ensures { result ≡ true → a.now ≡ b.now }
-{
-    a.bytes() == b.bytes()
-}
-
-/// Whether these are the same queue names.
-fn are_same(a: &[QueueName], b: &[QueueName]) -> bool
-    ensures { result ≡ true → a.now ≡ b.now }
-{
-    if a.len() != b.len() {
-        return false;
-    }
-    for place in 0..a.len() {
-        if !is_same(&a[place], &b[place]) {
-            return false;
-        }
-    }
-    true
-}
-
 impl Hub {
     /// The queue names that want the subject, where they are in mind and no peer is eligible: the server serves them all itself. It is not
     /// noted that they were asked for.
     #[tactic(auto, using(crate::proofs::Choices::Local::local_alone))]
-    fn names_known(&self, subject: &Subject) -> Option<&QueueNames>
+    fn names_known(&self, subject: &LentSubject<'_>) -> Option<&QueueNames>
         ensures { IfSome result (λ names.
             OwesLocalJob self.now.server self.now.state subject.now names.now) }
     {
@@ -68,23 +51,25 @@ impl Hub {
     }
 
     /// Whether no queue name wants the subject, and no peer is owed a frame of a publication on it.
-    fn is_unwanted(&self, subject: &Subject) -> bool
+    fn is_unwanted(&self, subject: &LentSubject<'_>) -> bool
         ensures { result ≡ true → OwesLocalJob self.now.server self.now.state subject.now [] }
     {
         !self.is_named(subject) && !is_wanted_elsewhere(&self.server, &self.peers, subject)
     }
 
-    /// Whether a publication on this subject owes the server's own shards a job with just these queue names, and nothing else: just they want
-    /// it, the server serves each of them itself, and no peer is owed a frame. Of names that are not in mind it is told only where there are
-    /// none. Takes no memory.
-    pub fn owes_local_job(&self, subject: &Subject, queues: &QueueNames) -> bool
-        ensures { result ≡ true
-            → OwesLocalJob self.now.server self.now.state subject.now queues.now }
+    /// The queue names of a publication on this subject, where it owes the server's own shards a job with just these, and nothing else:
+    /// just they want it, the server serves each of them itself, and no peer is owed a frame. None where it may owe more, for want of
+    /// memory, and where names want it that are not in mind.
+    pub fn local_names(&self, subject: &LentSubject<'_>) -> Option<QueueNames>
+        ensures { IfSome result (λ queues.
+            OwesLocalJob self.now.server self.now.state subject.now queues) }
     {
-        let queues = queues.as_slice();
         if let Some(names) = self.names_known(subject) {
-            return are_same(names.as_slice(), queues);
+            return names.try_clone().ok();
         }
-        queues.is_empty() && self.is_unwanted(subject)
+        if self.is_unwanted(subject) {
+            return Some(QueueNames::new());
+        }
+        None
     }
 }

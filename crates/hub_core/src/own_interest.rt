@@ -12,7 +12,7 @@ use interest::{FoundNames, Local, Recount};
 use std::alloc::{AllocError, Global};
 use std::cell::Cell;
 use std::marker::Model;
-use subj::{Delta, QueueName, QueueNames, Subject};
+use subj::{Delta, LentSubject, QueueName, QueueNames, Subject};
 
 /// The queue names of the server's own counts that want a subject.
 #[derive(Drop)]
@@ -67,7 +67,7 @@ fn names_wanting(alloc: Global, counts: &Local, subject: &Subject) -> Option<Que
     ensures { IfSome result (λ names. names ≡ names_in subject.now counts.now []) }
 {
     let mut names = FoundNames::new();
-    let Ok(()) = counts.names_in(subject, &mut names) else {
+    let Ok(()) = counts.names_in(&subject.lent(), &mut names) else {
         return None;
     };
     let Ok(copies) = copies_of(alloc, &names) else {
@@ -157,7 +157,7 @@ impl OwnInterest {
     }
 
     /// Whether a key with a queue name matches the subject.
-    pub fn has_queue(&self, subject: &Subject) -> bool
+    pub fn has_queue(&self, subject: &LentSubject<'_>) -> bool
         ensures { result ≡ has_queue_match subject.now self.now }
     {
         if !self.is_queued {
@@ -178,7 +178,7 @@ impl OwnInterest {
     }
 
     /// The queue names that want the subject, where they are in mind.
-    pub fn names_known(&self, subject: &Subject) -> Option<&QueueNames>
+    pub fn names_known(&self, subject: &LentSubject<'_>) -> Option<&QueueNames>
         ensures { IfSome result (λ names. AreInMind self.now subject.now names.now) }
     {
         let _valid = self.counts.keys();
@@ -195,7 +195,7 @@ impl OwnInterest {
     pub fn names_in_mind(&self, subject: &Subject) -> Option<&QueueNames>
         ensures { IfSome result (λ names. AreInMind self.now subject.now names.now) }
     {
-        let known = self.names_known(subject);
+        let known = self.names_known(&subject.lent());
         if known.is_none() {
             self.note(subject);
         }

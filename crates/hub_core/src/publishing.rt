@@ -21,8 +21,8 @@ use pick::choose;
 use route_values::{Body, Numbered};
 use std::alloc::{AllocError, Global};
 use subj::{
-    ConnId, Incarnation, Job, MAX_COUNTER, MAX_KEYS, MAX_NODES, MAX_QUEUE_NAMES, MAX_WEIGHT,
-    Message, NodeId, PubId, QueueName, QueueNames, ROUTE_FRAMES, ServerIdentity, Subject, Turn,
+    ConnId, Incarnation, Job, LentSubject, MAX_COUNTER, MAX_KEYS, MAX_NODES, MAX_QUEUE_NAMES,
+    MAX_WEIGHT, Message, NodeId, PubId, QueueName, QueueNames, ROUTE_FRAMES, ServerIdentity, Turn,
 };
 
 /// What a publish owes, found before anything is changed.
@@ -50,7 +50,7 @@ pub(crate) struct Outgoing<'a> {
 fn is_owed(peer: &Peer, message: &Message, queues: &QueueNames) -> bool
     ensures { result ≡ owed message.now.subject queues.now peer.now }
 {
-    peer.heard.has_plain(message.subject()) || !queues.as_slice().is_empty()
+    peer.heard.has_plain(&message.subject().lent()) || !queues.as_slice().is_empty()
 }
 
 /// The frame for an incarnation of the peer at the place, with these queue names.
@@ -228,7 +228,7 @@ pub(crate) fn is_alone(server: &ServerIdentity, peers: &[Peer]) -> bool
 }
 
 /// Whether the peer is eligible, and has a key with a queue name that matches the subject.
-fn wants_name(server: &ServerIdentity, place: usize, peer: &Peer, subject: &Subject) -> bool
+fn wants_name(server: &ServerIdentity, place: usize, peer: &Peer, subject: &LentSubject<'_>) -> bool
     ensures { result
         ≡ (eligible server.now place peer.now && has_queue_match subject.now peer.now.heard.keys) }
 {
@@ -240,7 +240,7 @@ pub(crate) fn is_name_wanted(
     server: &ServerIdentity,
     counts: &OwnInterest,
     peers: &[Peer],
-    subject: &Subject,
+    subject: &LentSubject<'_>,
 ) -> bool
     ensures { result
         ≡ (has_queue_match subject.now counts.now
@@ -262,7 +262,7 @@ fn add_names<'a>(
     server: &ServerIdentity,
     place: usize,
     peer: &'a Peer,
-    subject: &Subject,
+    subject: &LentSubject<'_>,
     names: &mut FoundNames<'a>,
 ) -> Result<(), TooManyNames>
     ensures { AreGathered
@@ -284,7 +284,7 @@ pub(crate) fn gather_names<'a>(
     server: &ServerIdentity,
     counts: &'a Local,
     peers: &'a [Peer],
-    subject: &Subject,
+    subject: &LentSubject<'_>,
     names: &mut FoundNames<'a>,
 ) -> Result<(), TooManyNames>
     requires { names.old ≡ [] }
@@ -304,7 +304,7 @@ pub(crate) fn gather_names<'a>(
 fn weight_at(
     server: &ServerIdentity,
     counts: &Local,
-    subject: &Subject,
+    subject: &LentSubject<'_>,
     name: &QueueName,
     place: usize,
     peer: &Peer,
@@ -327,7 +327,7 @@ fn server_for(
     server: &ServerIdentity,
     counts: &Local,
     peers: &[Peer],
-    subject: &Subject,
+    subject: &LentSubject<'_>,
     word: u64,
     name: &QueueName,
 ) -> Option<NodeId>
@@ -349,7 +349,7 @@ fn server_at(
     server: &ServerIdentity,
     counts: &Local,
     peers: &[Peer],
-    subject: &Subject,
+    subject: &LentSubject<'_>,
     word: u64,
     name: Option<&QueueName>,
 ) -> Option<NodeId>
@@ -368,7 +368,7 @@ pub(crate) fn servers_for(
     server: &ServerIdentity,
     counts: &Local,
     peers: &[Peer],
-    subject: &Subject,
+    subject: &LentSubject<'_>,
     word: u64,
     names: &FoundNames<'_>,
 ) -> Result<Vec<Option<NodeId>>, AllocError>

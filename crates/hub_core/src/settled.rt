@@ -6,7 +6,7 @@ ghost use Rattle.hub_core.specs.Settled.{knows_at, can_number as has_numbers, go
 use crate::hub::Hub;
 use crate::publishing::gather_names;
 use interest::FoundNames;
-use subj::{MAX_COUNTER, Subject};
+use subj::{LentSubject, MAX_COUNTER};
 
 impl Hub {
     /// Whether the other hub's server, at this place, is known as it runs: it is up in its incarnation, what was heard of its
@@ -37,7 +37,7 @@ impl Hub {
     }
 
     /// Whether no more queue names want the subject than a publication may have. Takes no memory.
-    pub fn has_few_names(&self, subject: &Subject) -> bool
+    pub fn has_few_names(&self, subject: &LentSubject<'_>) -> bool
         ensures { result ≡ are_few self.now.server self.now.state subject.now }
     {
         let mut names = FoundNames::new();

@@ -23,7 +23,7 @@ use route_values::WeightedKey;
 use std::alloc::{AllocError, Global};
 use std::collections::VecDeque;
 use std::marker::Model;
-use subj::{Delta, Failure, Key, MAX_KEYS, MAX_WEIGHT, QueueName, SUBSCRIPTION_BYTES, Subject};
+use subj::{Delta, Failure, Key, LentSubject, MAX_KEYS, MAX_WEIGHT, QueueName, SUBSCRIPTION_BYTES};
 
 /// The places for keys, as the length of a list.
 pub(crate) const PLACES: usize = MAX_KEYS as usize;
@@ -78,7 +78,7 @@ fn place_of(entries: &[(Key, u64)], key: &Key) -> Result<usize, usize>
 }
 
 /// How many open subscriptions of this queue name the subject matches.
-fn weight_among(entries: &[(Key, u64)], subject: &Subject, name: &QueueName) -> u64
+fn weight_among(entries: &[(Key, u64)], subject: &LentSubject<'_>, name: &QueueName) -> u64
     requires { IsInterest entries.now }
     ensures same { result ≡ weight_in subject.now name.now entries.now }
     ensures most { result ≤ MAX_KEYS * MAX_WEIGHT }
@@ -278,21 +278,21 @@ impl Local {
 
     /// Whether a plain key matches the subject: whether some subscription without a queue name wants
     /// what is published there.
-    pub fn has_plain(&self, subject: &Subject) -> bool
+    pub fn has_plain(&self, subject: &LentSubject<'_>) -> bool
         ensures { result ≡ list_any (is_plain_match subject.now) self.now }
     {
         has_match(&self.entries, subject, true)
     }
 
     /// Whether a key with a queue name matches the subject: whether [`Local::names_in`] finds any name.
-    pub fn has_queue(&self, subject: &Subject) -> bool
+    pub fn has_queue(&self, subject: &LentSubject<'_>) -> bool
         ensures { result ≡ has_queue_match subject.now self.now }
     {
         has_match(&self.entries, subject, false)
     }
 
     /// How many open subscriptions of this queue name the subject matches. (Profile.)
-    pub fn weight_in(&self, subject: &Subject, name: &QueueName) -> u64
+    pub fn weight_in(&self, subject: &LentSubject<'_>, name: &QueueName) -> u64
         ensures same { result ≡ weight_in subject.now name.now self.now }
         ensures most { result ≤ MAX_KEYS * MAX_WEIGHT }
     {
@@ -303,7 +303,7 @@ impl Local {
     /// their place; then some of them were added. Takes no memory.
     pub fn names_in<'a>(
         &'a self,
-        subject: &Subject,
+        subject: &LentSubject<'_>,
         names: &mut FoundNames<'a>,
     ) -> Result<(), TooManyNames>
         ensures { AreGathered (names_of subject.now self.now names.old) names.new result }

@@ -10,7 +10,7 @@ ghost use Rattle.interest.specs.Matches.{add_queue as with_queue, has_kind_match
 
 use crate::names::{FoundNames, TooManyNames};
 use crate::seeks::{Keyed, next_match};
-use subj::{Key, QueueName, Subject};
+use subj::{Key, LentSubject, QueueName};
 
 /// So many keys are looked at one by one sooner than those that match are found among them.
 const FEW: usize = 16;
@@ -27,14 +27,14 @@ fn is_of_kind(key: &Key, plain: bool) -> bool
 }
 
 /// Whether it is a key of this kind that matches the subject.
-fn is_match(key: &Key, subject: &Subject, plain: bool) -> bool
+fn is_match(key: &Key, subject: &LentSubject<'_>, plain: bool) -> bool
     ensures { result ≡ (of_kind plain key.now && subject_matches key.now.pattern subject.now) }
 {
     is_of_kind(key, plain) && key.pattern.matches(subject)
 }
 
 /// The same as [`has_match`], by a look at each key.
-fn has_match_among<T: Keyed>(entries: &[T], subject: &Subject, plain: bool) -> bool
+fn has_match_among<T: Keyed>(entries: &[T], subject: &LentSubject<'_>, plain: bool) -> bool
     ensures { result ≡ has_kind_match plain subject.now (map T.entry entries.now) }
 {
     for place in 0..entries.len() {
@@ -46,7 +46,7 @@ fn has_match_among<T: Keyed>(entries: &[T], subject: &Subject, plain: bool) -> b
 }
 
 /// Whether a key matches the subject that is plain, or that has a queue name, as it is asked.
-pub(crate) fn has_match<T: Keyed>(entries: &[T], subject: &Subject, plain: bool) -> bool
+pub(crate) fn has_match<T: Keyed>(entries: &[T], subject: &LentSubject<'_>, plain: bool) -> bool
     requires { IsStrictlySortedBy key_cmp (keys_of (map T.entry entries.now)) }
     ensures { result ≡ has_kind_match plain subject.now (map T.entry entries.now) }
 {
@@ -67,7 +67,7 @@ pub(crate) fn has_match<T: Keyed>(entries: &[T], subject: &Subject, plain: bool)
 /// one too many.
 fn add_wanted<'a>(
     key: &'a Key,
-    subject: &Subject,
+    subject: &LentSubject<'_>,
     names: &mut FoundNames<'a>,
 ) -> Result<(), TooManyNames>
     ensures { AreGathered
@@ -83,7 +83,7 @@ fn add_wanted<'a>(
 /// The same as [`names_in`], by a look at each key.
 fn names_among<'a, T: Keyed>(
     entries: &'a [T],
-    subject: &Subject,
+    subject: &LentSubject<'_>,
     names: &mut FoundNames<'a>,
 ) -> Result<(), TooManyNames>
     ensures { AreGathered (names_of subject.now (map T.entry entries.now) names.old) names.new
@@ -99,7 +99,7 @@ fn names_among<'a, T: Keyed>(
 /// place; then some of them were added. Takes no memory.
 pub(crate) fn names_in<'a, T: Keyed>(
     entries: &'a [T],
-    subject: &Subject,
+    subject: &LentSubject<'_>,
     names: &mut FoundNames<'a>,
 ) -> Result<(), TooManyNames>
     requires { IsStrictlySortedBy key_cmp (keys_of (map T.entry entries.now)) }

@@ -10,7 +10,7 @@ ghost use Rattle.interest.specs.Seeks.{IsNextMatch};
 
 use crate::sights::{Beginning, Sight, look};
 use route_values::WeightedKey;
-use subj::{Key, Subject};
+use subj::{Key, LentSubject};
 
 /// What stands under a key.
 pub(crate) trait Keyed {
@@ -65,7 +65,7 @@ fn place_at<T: Keyed>(entries: &[T], place: usize, beginning: &Beginning<'_>) ->
 
 /// The first place from this one on whose pattern matches the subject; as many as there are where there is
 /// none. It costs by the beginnings that the subject has among the patterns, and hardly by how many they are.
-pub(crate) fn next_match<T: Keyed>(entries: &[T], from: usize, subject: &Subject) -> usize
+pub(crate) fn next_match<T: Keyed>(entries: &[T], from: usize, subject: &LentSubject<'_>) -> usize
     requires rising { IsStrictlySortedBy key_cmp (keys_of (map T.entry entries.now)) }
     requires within { from ≤ length entries.now }
     ensures { IsNextMatch T.entry entries.now subject.now from result }

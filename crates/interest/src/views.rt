@@ -25,7 +25,7 @@ use route_values::{SnapshotKeys, WeightedKey};
 use std::alloc::{AllocError, Global};
 use std::cmp::Ordering;
 use std::marker::Model;
-use subj::{Failure, Key, MAX_KEYS, MAX_WEIGHT, QueueName, Subject};
+use subj::{Failure, Key, LentSubject, MAX_KEYS, MAX_WEIGHT, QueueName};
 
 /// The place of the key, or the one where it would stand.
 fn place_of(keys: &[WeightedKey], key: &Key) -> Result<usize, usize>
@@ -82,7 +82,7 @@ fn follow(keys: &mut Vec<WeightedKey>, change: Change) -> Result<(), AllocError>
 }
 
 /// What the keys of this queue name that match the subject weigh together.
-fn weight_among(keys: &[WeightedKey], subject: &Subject, name: &QueueName) -> u64
+fn weight_among(keys: &[WeightedKey], subject: &LentSubject<'_>, name: &QueueName) -> u64
     requires { IsHeard keys.now }
     ensures same { result ≡ weight_in subject.now name.now keys.now }
     ensures most { result ≤ MAX_KEYS * MAX_WEIGHT }
@@ -170,21 +170,21 @@ impl View {
     }
 
     /// Whether a plain key matches the subject. (NATS documentation, "Queue Groups".)
-    pub fn has_plain(&self, subject: &Subject) -> bool
+    pub fn has_plain(&self, subject: &LentSubject<'_>) -> bool
         ensures { result ≡ has_plain_match subject.now self.now.keys }
     {
         has_match(&self.keys, subject, true)
     }
 
     /// Whether a key with a queue name matches the subject: whether [`View::names_in`] finds any name.
-    pub fn has_queue(&self, subject: &Subject) -> bool
+    pub fn has_queue(&self, subject: &LentSubject<'_>) -> bool
         ensures { result ≡ has_queue_match subject.now self.now.keys }
     {
         has_match(&self.keys, subject, false)
     }
 
     /// What the keys of this queue name that match the subject weigh together. (Profile.)
-    pub fn weight_in(&self, subject: &Subject, name: &QueueName) -> u64
+    pub fn weight_in(&self, subject: &LentSubject<'_>, name: &QueueName) -> u64
         ensures same { result ≡ weight_in subject.now name.now self.now.keys }
         ensures most { result ≤ MAX_KEYS * MAX_WEIGHT }
     {
@@ -195,7 +195,7 @@ impl View {
     /// have their place; then some of them were added. Takes no memory.
     pub fn names_in<'a>(
         &'a self,
-        subject: &Subject,
+        subject: &LentSubject<'_>,
         names: &mut FoundNames<'a>,
     ) -> Result<(), TooManyNames>
         ensures { AreGathered (names_of subject.now self.now.keys names.old) names.new result }

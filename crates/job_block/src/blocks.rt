@@ -223,6 +223,7 @@ impl JobBlock {
     /// Puts the job of a publication behind, with the turn behind the last one's. A small publication is copied; of one that has
     /// [`SHARED_BYTES`](crate::SHARED_BYTES) or more, header block and payload together, a message is made that all share. Want of memory
     /// leaves all as it was. Required: the publication can be published, and there is a turn ([`JobBlock::next_turn`]).
+    #[inline(never)]
     pub fn push(
         &mut self,
         publication: &PublicationParts<'_>,

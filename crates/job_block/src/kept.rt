@@ -10,7 +10,7 @@ ghost use Rattle.job_block.specs.Blocks.{FollowsAlike, job_of};
 use crate::publications::PublicationParts;
 use crate::spans::{Span, Spans, put};
 use std::alloc::{AllocError, Global};
-use subj::{ConnId, Message, PubId, QueueName, QueueNames};
+use subj::{ConnId, LentSubject, Message, PubId, QueueName, QueueNames};
 
 /// From how many bytes on header block and payload of a publication are not copied into the text of a block: they stand apart, and all
 /// who keep the message share them. (Profile.)
@@ -27,13 +27,13 @@ pub(crate) enum KeptMessage {
 
 impl KeptMessage {
     /// Its subject.
-    pub(crate) fn subject<'a>(&'a self, text: &'a [u8]) -> &'a [u8]
+    pub(crate) fn subject<'a>(&'a self, text: &'a [u8]) -> LentSubject<'a>
         requires { IsKeptMessage text.now self.now }
-        ensures { result.now ≡ (message_in text.now self.now).subject }
+        ensures { result ≡ (message_in text.now self.now).subject }
     {
         match self {
-            KeptMessage::InText(spans) => spans.subject.of(text),
-            KeptMessage::Shared(message) => message.subject().bytes(),
+            KeptMessage::InText(spans) => LentSubject::of(spans.subject.of(text)),
+            KeptMessage::Shared(message) => message.subject().lent(),
         }
     }
 
@@ -133,7 +133,7 @@ impl KeptJob {
         if !are_same(self.queues.as_slice(), queues.as_slice()) {
             return false;
         }
-        self.message.subject(text) == publication.subject
+        self.message.subject(text).bytes() == publication.subject
     }
 }
 
@@ -184,6 +184,7 @@ pub(crate) fn last_subject(text: &[u8], kept: &[KeptJob], subject: &[u8]) -> Opt
 
 /// Keeps the message that has these parts: puts them behind the text, where its subject may stand already, or makes a message that
 /// stands apart. Want of memory leaves the text as it was. Required: it can be published.
+#[inline(always)]
 pub(crate) fn keep(
     text: &mut Vec<u8>,
     subject: Option<Span>,

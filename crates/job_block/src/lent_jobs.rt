@@ -10,7 +10,7 @@ use crate::kept::{KeptJob, SHARED_BYTES};
 use crate::publications::PublicationParts;
 use std::alloc::{AllocError, Global};
 use std::marker::Model;
-use subj::{ConnId, Job, Message, PubId, QueueNames, Turn};
+use subj::{ConnId, Job, LentSubject, Message, PubId, QueueNames, Turn};
 
 /// A job as it stands in a block.
 ///
@@ -78,8 +78,8 @@ impl<'a> LentJob<'a> {
     }
 
     /// What it was published on.
-    pub fn subject(&self) -> &'a [u8]
-        ensures { result.now ≡ self.now.message.subject }
+    pub fn subject(&self) -> LentSubject<'a>
+        ensures { result ≡ self.now.message.subject }
     {
         self.kept.message.subject(self.text)
     }

@@ -10,7 +10,7 @@ use crate::kept::{SHARED_BYTES, SHORT_BYTES};
 use bytes::Bytes;
 use std::alloc::{AllocError, Global};
 use std::marker::Model;
-use subj::{MAX_PAYLOAD, Message, MessageBody, MessageParts, Reply, Subject};
+use subj::{LentSubject, MAX_PAYLOAD, Message, MessageBody, MessageParts, Reply, Subject};
 
 /// The bytes of a reply, where there is one.
 fn reply_bytes(reply: Option<&Reply>) -> Option<&[u8]>
@@ -38,11 +38,7 @@ fn valid_subject(alloc: Global, text: &[u8]) -> Result<Subject, AllocError>
     requires { subject_fault text.now ≡ None }
     ensures { IfOk result (λ subject. subject ≡ text.now) }
 {
-    match Subject::read(alloc, text) {
-        Ok(subject) => Ok(subject),
-        // required: there is no fault
-        Err(failure) => Err(failure.want_of_memory()),
-    }
+    LentSubject::of(text).to_subject(alloc)
 }
 
 /// The reply that these bytes are, where there is one.
@@ -175,10 +171,10 @@ impl<'a> PublicationParts<'a> {
 /// A publication as a client hands it in, without a header block, whose payload stands where it was read: no message is made of it.
 /// (NATS documentation, "Client Protocol": `PUB`, and `echo` of `CONNECT`.)
 ///
-/// Seen as the publication. Its payload has at most [`SHORT_BYTES`] bytes. (Profile.)
+/// Seen as the publication.
 #[derive(Drop)]
 pub struct LentPub<'a> {
-    subject: &'a Subject,
+    subject: &'a [u8],
     reply: Option<&'a [u8]>,
     payload: &'a [u8],
     echo: bool,
@@ -188,7 +184,7 @@ impl<'a> Model for LentPub<'a> {
     ghost use Rattle.std.specs.Prelude.{◌≡◌, ◌≤◌, length, None, IfSome};
     ghost use Rattle.std.specs.Option.{option_copied};
     ghost use Rattle.subj.specs.Names.{subject_fault};
-    ghost use Rattle.job_block.specs.declared.kept.TheConstants.{SHORT_BYTES};
+    ghost use Rattle.subj.specs.declared.limits.TheConstants.{MAX_PAYLOAD};
     ghost use Rattle.subj.specs.declared.messages.Pub.{Pub};
     ghost use Rattle.job_block.specs.Publications.{lent_pub};
 
@@ -198,24 +194,25 @@ impl<'a> Model for LentPub<'a> {
         lent_pub lent.subject.now (option_copied lent.reply) lent.payload.now lent.echo };
 
     ghost invariant = { λ lent.
-        (length lent.payload.now ≤ SHORT_BYTES)
+        (subject_fault lent.subject.now ≡ None)
+        × (length lent.payload.now ≤ MAX_PAYLOAD)
         × IfSome (option_copied lent.reply) (λ reply. subject_fault reply ≡ None) };
 }
 
 impl<'a> LentPub<'a> {
     /// The publication of these. Required: the payload is within the limit, and the reply is a subject.
     pub fn new(
-        subject: &'a Subject,
+        subject: LentSubject<'a>,
         reply: Option<&'a [u8]>,
         payload: &'a [u8],
         echo: bool,
     ) -> LentPub<'a>
-        requires payload { length payload.now ≤ SHORT_BYTES }
+        requires payload { length payload.now ≤ MAX_PAYLOAD }
         requires reply { IfSome (option_copied reply) (λ reply. subject_fault reply ≡ None) }
-        ensures { result ≡ lent_pub subject.now (option_copied reply.entry) payload.now echo }
+        ensures { result ≡ lent_pub subject.entry (option_copied reply.entry) payload.now echo }
     {
         LentPub {
-            subject,
+            subject: subject.bytes(),
             reply,
             payload,
             echo,
@@ -223,10 +220,10 @@ impl<'a> LentPub<'a> {
     }
 
     /// What it is published on.
-    pub fn subject(&self) -> &'a Subject
-        ensures { result.now ≡ self.now.message.subject }
+    pub fn subject(&self) -> LentSubject<'a>
+        ensures { result ≡ self.now.message.subject }
     {
-        self.subject
+        LentSubject::of(self.subject)
     }
 
     /// The bytes that are published.
@@ -246,12 +243,10 @@ impl<'a> LentPub<'a> {
     /// Its parts, each where it was read.
     pub fn parts(&self) -> PublicationParts<'a>
         ensures same { content_by result ≡ self.now.message }
-        ensures short { IsShort self.now.message }
         ensures valid { IsPublishable self.now.message }
     {
-        let subject = self.subject.bytes();
         PublicationParts {
-            subject,
+            subject: self.subject,
             reply: self.reply,
             headers: None,
             payload: self.payload,

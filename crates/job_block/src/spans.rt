@@ -129,6 +129,7 @@ fn append_parts(
 }
 
 /// Puts the parts of a publication behind the text; its subject may stand there already. Want of memory leaves the text as it was.
+#[inline(always)]
 pub(crate) fn put(
     text: &mut Vec<u8>,
     subject: Option<Span>,

@@ -187,7 +187,7 @@ fn is_match(alloc: Global, pattern: &[u8], subject: &[u8]) -> Result<bool, Alloc
         Err(failure) => return Err(failure.want_of_memory()),
     };
     match Subject::read(alloc, subject) {
-        Ok(subject) => Ok(pattern.matches(&subject)),
+        Ok(subject) => Ok(pattern.matches(&subject.lent())),
         // required: the bytes are a subject
         Err(failure) => Err(failure.want_of_memory()),
     }

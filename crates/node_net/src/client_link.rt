@@ -263,12 +263,14 @@ impl<H: HubCalls> ClientCalls for HubTally<H> {
     }
 
     fn publish_run(&mut self, conn: ConnId, run: &mut LentRun<'_>) -> u64 {
+        let unread = run.left();
         let count = self.hub.publish_run(conn, run);
         if count == 0 {
             return 0;
         }
         skip_words(&mut self.words, count);
-        self.so_far.count_run(count, run.payload_bytes());
+        self.so_far
+            .count_run(count, unread.saturating_sub(run.left()));
         self.so_far.is_empty = false;
         count
     }

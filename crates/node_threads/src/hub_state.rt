@@ -1,7 +1,7 @@
 //! What stands under the lock of the hub: the jobs on their way to the lanes, and its state. It issues publications that are lent in one call.
 
-ghost use Rattle.std.specs.Prelude.{◌≡◌, ◌++◌, true, false, Some, [], ◌+◌, ◌<◌, ◌∷◌, All, length, map, OnOk, OnErr, None, ⊤, IfOk, IfSome, if◌then◌else◌};
-ghost use Rattle.job_block.specs.Blocks.{IsLast, job_of as job_by, turn_behind};
+ghost use Rattle.std.specs.Prelude.{◌≡◌, ◌++◌, true, false, Some, [], ◌+◌, ◌<◌, ◌≤◌, ◌∷◌, All, length, map, OnOk, OnErr, None, ⊤, IfOk, IfSome, if◌then◌else◌};
+ghost use Rattle.job_block.specs.Blocks.{IsLast, IsLeft, IsPushed, job_of as job_by, turn_behind};
 ghost use Rattle.job_lane.specs.Turns.{AreNumbered};
 ghost use Rattle.node_threads.specs.Outlets.{jobs_owed, AreFirst};
 ghost use Rattle.subj.specs.Answers.{IsAnswered, IsDecided};
@@ -26,7 +26,7 @@ use crate::node_name::NodeName;
 use crate::shard_state::ShardState;
 use claim_cells::{Cells, HubSeat};
 use hub_core::{CollectResult, HubFault, PublishPlan};
-use job_block::{JobBlock, LentJob, LentPub, Origin};
+use job_block::{JobBlock, LentPub, Origin};
 use job_lane::Run;
 use node_parts::{HubWithSessions, Issued, Received, is_message};
 use publication_runs::LentRun;
@@ -36,7 +36,7 @@ use std::alloc::{AllocError, Global};
 use std::marker::{Model, PhantomData};
 use std::sync::Wait;
 use sub_table::SubTable;
-use subj::{ConnId, Failure, Finished, Job, Pub, QueueNames, ServerIdentity, Turn};
+use subj::{ConnId, Failure, Finished, Job, MAX_COUNTER, Pub, QueueNames, ServerIdentity, Turn};
 
 /// The hub's ends of all lanes, and the jobs that not all of them have yet, in order: a run that is handed
 /// out, and behind it those that are not made into a run yet.
@@ -122,17 +122,31 @@ fn begin_at(block: &mut JobBlock, turn: Turn)
     }
 }
 
-/// Whether a run goes on behind the job with what this connection publishes so.
-fn goes_on(last: &LentJob<'_>, conn: ConnId, run: &LentRun<'_>) -> bool
-    ensures { result ≡ true
-        → (last.now.message.subject ≡ run.now.subject)
-        × (last.now.publisher ≡ Some conn)
-        × (last.now.echo ≡ run.now.echo) }
+/// Puts the job of a publication that is lent behind the block's. Want of memory leaves all as it was. Required: there is a turn, and, where it
+/// is told that a run goes on, the last job is like it.
+#[inline(always)]
+fn put_lent(
+    block: &mut JobBlock,
+    origin: Origin,
+    publication: &LentPub<'_>,
+    queues: QueueNames,
+    goes_on: bool,
+) -> Result<(), AllocError>
+    requires last { goes_on ≡ true → 0 < length block.old.jobs
+        → IsLast origin.publisher publication.now.message.subject origin.echo queues
+        block.old.jobs }
+    requires turn { turn_behind block.old ≤ MAX_COUNTER }
+    ensures ok { OnOk result
+        (IsPushed (job_by origin (turn_behind block.old) publication.now.message queues) block.old
+        block.new) }
+    ensures err { OnErr result (IsLeft block.old block.new) }
 {
-    if last.publisher() != Some(conn) || last.echo() != run.echo() {
-        return false;
+    let parts = publication.parts();
+    if goes_on && parts.is_short() {
+        block.push_next(&parts, origin, queues)
+    } else {
+        block.push(&parts, origin, queues)
     }
-    last.subject() == run.subject().bytes()
 }
 
 impl<N: NodeName> Outlet<N> {
@@ -174,39 +188,26 @@ impl<N: NodeName> Outlet<N> {
         self.unsent.push_message(message, origin, queues)
     }
 
-    /// Hands the next job to the shards: that of a publication with these queue names, which are shared. Want of memory leaves all as it
-    /// was. Required: a run goes on with it ([`Outlet::run_names`]).
-    fn add_next(
+    /// Hands the next job to the shards: that of a publication that is lent, with these queue names, which are shared. Want of memory leaves
+    /// all as it was. Required: where it is told that a run goes on, the last job is like it.
+    fn add_lent(
         &mut self,
         turn: Turn,
         origin: Origin,
         publication: &LentPub<'_>,
         queues: QueueNames,
+        goes_on: bool,
     ) -> Result<(), AllocError>
         requires turn { turn ≡ length self.old + 1 }
-        requires last { IsLast origin.publisher publication.now.message.subject origin.echo queues
-            self.old }
+        requires last { goes_on ≡ true
+            → IsLast origin.publisher publication.now.message.subject origin.echo queues self.old }
         ensures ok { OnOk result
             (self.new ≡ self.old ++ job_by origin turn publication.now.message queues ∷ []) }
         ensures err { OnErr result (self.new ≡ self.old) }
     {
         let _numbered = self.unsent.first_turn();
         begin_at(&mut self.unsent, turn);
-        self.unsent.push_next(&publication.parts(), origin, queues)
-    }
-
-    /// The queue names of the last job that is not in a run, where a run goes on behind it with what this connection publishes on this
-    /// subject. Then a shard mostly delivers them at once, as they stand in their block, where there are no queue names. None for want of
-    /// memory, too.
-    fn run_names(&self, conn: ConnId, run: &LentRun<'_>) -> Option<QueueNames>
-        ensures { IfSome result (λ queues.
-            IsLast (Some conn) run.now.subject run.now.echo queues self.now) }
-    {
-        let last = self.unsent.last()?;
-        if !goes_on(&last, conn, run) {
-            return None;
-        }
-        last.queues().try_clone().ok()
+        put_lent(&mut self.unsent, origin, publication, queues, goes_on)
     }
 
     /// Pushes what is not pushed yet, oldest first, as far as lanes have room and there is memory.
@@ -431,45 +432,24 @@ impl<N: NodeName> HubState<N> {
     }
 
     /// Issues publications of the connection that are lent, one after the other, as [`HubState::publish`] does, as far as each owes a job to
-    /// the server's own shards and nothing else, whatever its word. No message is made of any. Gives how many; nothing was done of the
-    /// next: where a shard is a window behind, where the numbers are spent, and for want of memory. 0 where a run does not go on with
-    /// them. Required: the race of this server.
+    /// the server's own shards and nothing else, whatever its word. No message is made of those that are small. Gives how many; nothing was
+    /// done of the next: where a shard is a window behind, where the numbers are spent, and for want of memory. 0 where they may owe more.
+    /// Required: the race of this server.
     pub fn publish_run(&mut self, cells: &Cells, conn: ConnId, run: &mut LentRun<'_>) -> u64
         requires { cells.now ≡ N.race }
-        ensures { IssuesRun N.race.shards conn result run.old run.new self.old self.new }
-    {
-        match self.outlet.run_names(conn, run) {
-            None => 0,
-            Some(queues) => self.issue_run(cells, conn, run, &queues),
-        }
-    }
-
-    /// Issues publications that are lent, as [`HubState::publish_run`] does, as far as each owes a job with these queue names. Required: a
-    /// run goes on with them.
-    fn issue_run(
-        &mut self,
-        cells: &Cells,
-        conn: ConnId,
-        run: &mut LentRun<'_>,
-        queues: &QueueNames,
-    ) -> u64
-        requires race { cells.now ≡ N.race }
-        requires last { IsLast (Some conn) run.old.subject run.old.echo queues.now
-            self.old.issued }
         ensures { IssuesRun N.race.shards conn result run.old run.new self.old self.new }
     {
         if run.peek().is_none() {
             return 0;
         }
-        if !self.side.hub().owes_local_job(run.subject(), queues) {
-            return 0;
+        match self.side.hub().local_names(&run.subject()) {
+            None => 0,
+            Some(queues) => self.issue_each(cells, conn, run, &queues),
         }
-        let free = self.side.hub().turns_free(&self.finished);
-        self.issue_each(cells, conn, run, queues, free)
     }
 
-    /// Issues so many publications that are lent, as far as they are given and there is memory. Their jobs have these queue names. Gives how
-    /// many. Required: each owes such a job, so many turns are free, and a run goes on with them.
+    /// Issues publications that are lent, as far as they are given and there are turns and memory. Their jobs have these queue names. Gives
+    /// how many. Required: each owes such a job.
     #[inline(always)]
     fn issue_each(
         &mut self,
@@ -477,18 +457,18 @@ impl<N: NodeName> HubState<N> {
         conn: ConnId,
         run: &mut LentRun<'_>,
         queues: &QueueNames,
-        free: u64,
     ) -> u64
         requires race { cells.now ≡ N.race }
         requires local { OwesLocalJob self.old.side.server self.old.side.hub run.old.subject
             queues.now }
-        requires free { HasTurnsFor self.old.side.server self.old.side.hub self.old.finished free }
-        requires last { IsLast (Some conn) run.old.subject run.old.echo queues.now
-            self.old.issued }
         ensures { IssuesRun N.race.shards conn result run.old run.new self.old self.new }
     {
-        for count in 0..free {
-            if !self.issue_next(cells, conn, run, queues) {
+        let free = self.side.hub().turns_free(&self.finished);
+        if free == 0 || !self.issue_next(cells, conn, run, queues, false) {
+            return 0;
+        }
+        for count in 1..free {
+            if !self.issue_next(cells, conn, run, queues, true) {
                 return count;
             }
         }
@@ -496,7 +476,7 @@ impl<N: NodeName> HubState<N> {
     }
 
     /// Issues the next publication that is lent, whose job has these queue names. Whether it did; where not, all is as it was. Required: a
-    /// turn is free.
+    /// turn is free, and, where it is told that a run goes on, the last job is like its own.
     #[inline(always)]
     fn issue_next(
         &mut self,
@@ -504,17 +484,19 @@ impl<N: NodeName> HubState<N> {
         conn: ConnId,
         run: &mut LentRun<'_>,
         queues: &QueueNames,
+        goes_on: bool,
     ) -> bool
         requires race { cells.now ≡ N.race }
         requires local { OwesLocalJob self.old.side.server self.old.side.hub run.old.subject
             queues.now }
         requires free { turn_refusal self.old.side.server self.old.side.hub self.old.finished
             ≡ None }
-        requires last { IsLast (Some conn) run.old.subject run.old.echo queues.now
-            self.old.issued }
+        requires last { goes_on ≡ true
+            → IsLast (Some conn) run.old.subject run.old.echo queues.now self.old.issued }
         ensures issues { IssuesRun N.race.shards conn (if result then 1 else 0) run.old run.new
             self.old self.new }
-        ensures last { IsLast (Some conn) run.new.subject run.new.echo queues.now self.new.issued }
+        ensures last { result ≡ true
+            → IsLast (Some conn) run.new.subject run.new.echo queues.now self.new.issued }
         ensures same { (self.new.finished ≡ self.old.finished)
             × (self.new.side.server ≡ self.old.side.server)
             × (self.new.side.hub
@@ -537,7 +519,7 @@ impl<N: NodeName> HubState<N> {
         };
         let Ok(()) = self
             .outlet
-            .add_next(turn, origin, &ahead.publication, names)
+            .add_lent(turn, origin, &ahead.publication, names, goes_on)
         else {
             return false;
         };

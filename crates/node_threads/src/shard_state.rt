@@ -147,15 +147,12 @@ impl<'a, G: Gate> Claims<ShardSeat> for GatedCells<'a, G> {
 }
 
 /// Delivers as many of these jobs at once as it can, from the first on and at most so many. Gives how
-/// many; 0 also where there are fewer than two, and for want of memory.
+/// many; 0 also for want of memory.
 fn deliver_first<T: SubTable>(shard: &mut Shard<T>, jobs: &JobSlice<'_>, most: u64) -> usize
     ensures most { result ≤ most }
     ensures delivers { DeliversFirst jobs.now result shard.old.state shard.new.state }
 {
     let most = jobs.len().min(most as usize);
-    if most < 2 {
-        return 0;
-    }
     shard.deliver_run(&jobs.first(most)).unwrap_or(0)
 }
 

@@ -85,7 +85,7 @@ fn weight(answer: &mut Answer, counts: &Local, alloc: Global, words: &Words<'_>)
 /// Tells whether a subscription without a queue name is open that the subject matches.
 fn is_counted(answer: &mut Answer, counts: &Local, alloc: Global, word: &str) -> Option<()> {
     let subject = subject_of(alloc, word)?;
-    answer.tell_whether(counts.has_plain(&subject))
+    answer.tell_whether(counts.has_plain(&subject.lent()))
 }
 
 /// Tells the keys in their order, each with its weight.
@@ -207,13 +207,13 @@ fn apply_snapshot(
 fn weight_in(answer: &mut Answer, view: &View, alloc: Global, words: &Words<'_>) -> Option<()> {
     let subject = subject_of(alloc, words.at(0))?;
     let name = queue_of(alloc, words.at(1))?;
-    answer.tell_number("weight ", view.weight_in(&subject, &name))
+    answer.tell_number("weight ", view.weight_in(&subject.lent(), &name))
 }
 
 /// Tells whether the peer has a subscription without a queue name that the subject matches.
 fn is_heard(answer: &mut Answer, view: &View, alloc: Global, word: &str) -> Option<()> {
     let subject = subject_of(alloc, word)?;
-    answer.tell_whether(view.has_plain(&subject))
+    answer.tell_whether(view.has_plain(&subject.lent()))
 }
 
 /// Tells the names that were found.
@@ -229,8 +229,8 @@ fn found_told(answer: &mut Answer, names: &FoundNames<'_>) -> Option<()> {
 fn names_twice(answer: &mut Answer, view: &View, alloc: Global, word: &str) -> Option<()> {
     let subject = subject_of(alloc, word)?;
     let mut names = FoundNames::new();
-    view.names_in(&subject, &mut names).ok()?;
-    view.names_in(&subject, &mut names).ok()?;
+    view.names_in(&subject.lent(), &mut names).ok()?;
+    view.names_in(&subject.lent(), &mut names).ok()?;
     found_told(answer, &names)
 }
 

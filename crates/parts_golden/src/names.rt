@@ -105,7 +105,7 @@ fn part(answer: &mut Answer, alloc: Global, words: &Words<'_>) -> Option<()> {
 fn matches(answer: &mut Answer, alloc: Global, words: &Words<'_>) -> Option<()> {
     let pattern = pattern_of(alloc, words.at(0))?;
     let subject = subject_of(alloc, words.at(1))?;
-    answer.tell_whether(pattern.matches(&subject))
+    answer.tell_whether(pattern.matches(&subject.lent()))
 }
 
 /// Makes a call of a name of this kind.

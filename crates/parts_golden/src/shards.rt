@@ -25,7 +25,7 @@ use subj::{
 fn find(answer: &mut Answer, trie: &PatternTrie<u64>, alloc: Global, word: &str) -> Option<()> {
     let subject = subject_of(alloc, word)?;
     let mut found = Vec::from_slice(alloc, &[0]).ok()?;
-    trie.matching(&subject, &mut found).ok()?;
+    trie.matching(&subject.lent(), &mut found).ok()?;
     found.sort_unstable();
     found_told(answer, &found)
 }

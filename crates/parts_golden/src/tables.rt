@@ -91,7 +91,7 @@ impl<T: SubTable> Opened<T> {
 
     /// Tells that the subject will be looked up.
     fn remember(&mut self, subject: &Subject) {
-        self.table.remember(subject);
+        self.table.remember(&subject.lent());
     }
 }
 
@@ -149,7 +149,7 @@ fn subs_told(answer: &mut Answer, subs: &[&Subscription]) -> Option<()> {
 /// Tells the serials of those that match.
 fn matching<T: SubTable>(answer: &mut Answer, table: &T, alloc: Global, word: &str) -> Option<()> {
     let subject = subject_of(alloc, word)?;
-    let subs = table.matching(&subject).ok()?;
+    let subs = table.matching(&subject.lent()).ok()?;
     subs_told(answer, &subs)
 }
 
@@ -413,7 +413,7 @@ fn push_got<T: SubTable>(answers: &mut Vec<u64>, table: &T, serial: u64) -> Opti
 
 /// Puts the serials of those that match.
 fn push_matching<T: SubTable>(answers: &mut Vec<u64>, table: &T, subject: &Subject) -> Option<()> {
-    for sub in &table.matching(subject).ok()? {
+    for sub in &table.matching(&subject.lent()).ok()? {
         answers.push(sub.serial).ok()?;
     }
     answers.push(PART).ok()

@@ -1,5 +1,5 @@
 -- What the nodes of a trie hold, by the bytes of the beginnings that they stand for.
-use Rattle.std.specs.Prelude.{◌≡◌, ℕ, ◌+◌, ◌-◌, ◌<◌, Bool, true, false, List, [], ◌∷◌, length, Option, Some, None, if◌then◌else◌}
+use Rattle.std.specs.Prelude.{◌≡◌, ℕ, ◌+◌, ◌-◌, ◌<◌, Bool, true, false, List, [], ◌∷◌, length, Option, Some, None, is_some, if◌then◌else◌}
 use Rattle.std.specs.Str.{bytes_eq}
 use Rattle.std.specs.HashMap.{HashMap, get_by}
 use Rattle.pattern_trie.specs.declared.text_hasher.TextHasher.{TextHasher}
@@ -8,6 +8,7 @@ use Rattle.std.specs.declared.vec.Vec.{Vec}
 use Rattle.std.specs.declared.alloc.Global.{Global}
 use Rattle.pattern_trie.specs.declared.node.Node.{Node}
 use Rattle.list_laws.specs.Lists.{is_empty}
+use Rattle.subj.specs.Names.{subject_fault}
 use Rattle.pattern_trie.specs.declared.marks.Marks.{Marks}
 use Rattle.pattern_trie.specs.Classes.{is_in}
 
@@ -116,3 +117,7 @@ pub record CanLeaveEach {V : Type 0} (test : List ℕ → Bool) (nodes : Nodes V
       → test q ≡ true
       → below_at nodes q ≡ 1
       → length (values_at nodes q) ≡ 0
+
+-- nothing is held under a text that is no subject, so under no pattern with a wildcard
+abbrev pub IsLiteral : {V : Type 0} → Nodes V → Type 0
+IsLiteral nodes = (q : List ℕ) → is_some (subject_fault q) ≡ true → values_at nodes q ≡ []

@@ -4,7 +4,7 @@
 //! let mut trie = PatternTrie::new(alloc);
 //! trie.insert(&pattern, serial)?;
 //! let mut found = Vec::new(alloc);
-//! trie.matching(&subject, &mut found)?;
+//! trie.matching(&subject.lent(), &mut found)?;
 //! trie.remove(&pattern, serial);
 //! ```
 //!
@@ -12,19 +12,21 @@
 //! `beginnings` enters a pattern and takes it out, and `walks` finds what a subject reaches, by the tokens that may go on (`marks`).
 #![tactic(auto)]
 
-ghost use Rattle.std.specs.Prelude.{◌≡◌, List, [], ◌∷◌, ◌++◌, OnOk, OnErr};
+ghost use Rattle.std.specs.Prelude.{◌≡◌, List, [], ◌∷◌, ◌++◌, false, None, OnOk, OnErr};
 ghost use Rattle.std.specs.List.Sorted.{IsPermutation};
+ghost use Rattle.subj.specs.Names.{subject_fault};
 ghost use Rattle.pattern_trie.specs.Matchers.{matching_values};
+ghost use Rattle.pattern_trie.specs.Nodes.{IsLiteral};
 ghost use Rattle.pattern_trie.specs.Starts.{node_count};
 ghost use Rattle.pattern_trie.specs.Held.{Held, Holds, without_held};
 
 use crate::beginnings::{enter_all, leave_all};
 use crate::nodes::{Nodes, push_value, take_value};
-use crate::walks::gather;
+use crate::walks::{add_values, gather};
 use std::alloc::{AllocError, Global};
 use std::collections::HashMap;
 use std::hash::BuildHasherDefault;
-use subj::{Pattern, Subject};
+use subj::{LentSubject, Pattern, Subject};
 
 mod beginnings;
 mod marks;
@@ -39,7 +41,10 @@ mod walks;
 pub struct PatternTrie<V> {
     alloc: Global,
     nodes: Nodes<V>,
+    /// Whether something was ever held under a pattern with a wildcard: if not, a subject is looked up as it stands.
+    is_wild: bool,
     ghost filled: { ∥ ((held : List (Held V)) × Holds held nodes) ∥₁ },
+    ghost literal: { is_wild ≡ false → IsLiteral nodes },
 }
 
 impl<V: Copy + PartialEq> PatternTrie<V> {
@@ -50,6 +55,17 @@ impl<V: Copy + PartialEq> PatternTrie<V> {
         PatternTrie {
             alloc,
             nodes: HashMap::with_hasher(alloc, BuildHasherDefault::new()),
+            is_wild: false,
+        }
+    }
+
+    /// Notes whether a pattern has a wildcard under which something is to be held.
+    fn note_wild(&mut self, text: &[u8])
+        ensures nodes { self.new.nodes ≡ self.old.nodes }
+        ensures plain { self.new.is_wild ≡ false → subject_fault text.now ≡ None }
+    {
+        if Subject::fault(text).is_some() {
+            self.is_wild = true;
         }
     }
 
@@ -63,6 +79,7 @@ impl<V: Copy + PartialEq> PatternTrie<V> {
             → OnErr result (Holds held self.new.nodes) }
     {
         let text = pattern.bytes();
+        self.note_wild(text);
         enter_all(self.alloc, &mut self.nodes, text)?;
         if push_value(&mut self.nodes, text, value).is_err() {
             leave_all(&mut self.nodes, text);
@@ -85,13 +102,16 @@ impl<V: Copy + PartialEq> PatternTrie<V> {
 
     /// Adds the values held under the patterns that match the subject, once for each time that they
     /// are held. In which order they come is not said.
-    pub fn matching(&self, subject: &Subject, found: &mut Vec<V>) -> Result<(), AllocError>
+    pub fn matching(&self, subject: &LentSubject<'_>, found: &mut Vec<V>) -> Result<(), AllocError>
         ensures { (held : List (Held V))
             → Holds held self.now.nodes
             → OnOk result
             (IsPermutation (found.old.items ++ matching_values subject.now held) found.new.items) }
     {
         let text = subject.bytes();
+        if !self.is_wild {
+            return add_values(&self.nodes, text, found);
+        }
         let mut path = Vec::with_capacity(self.alloc, text.len())?;
         gather(&self.nodes, &mut path, Some(text), found)
     }

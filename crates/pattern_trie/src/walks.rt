@@ -24,7 +24,11 @@ fn push_token(path: &mut Vec<u8>, token: &[u8]) -> Result<(), AllocError>
 }
 
 /// Adds what is held under a pattern.
-fn add_values<V: Copy>(nodes: &Nodes<V>, path: &[u8], found: &mut Vec<V>) -> Result<(), AllocError>
+pub(crate) fn add_values<V: Copy>(
+    nodes: &Nodes<V>,
+    path: &[u8],
+    found: &mut Vec<V>,
+) -> Result<(), AllocError>
     ensures { OnOk result (found.new.items ≡ found.old.items ++ values_at nodes.now path.now) }
 {
     match nodes.get(path) {

@@ -68,7 +68,7 @@ fn is_for(source: &Publication, life: &Life, placement: &Placement) -> bool
         && is_open_at(life, placement.step)
         && life.conn == placement.conn
         && is_of_mode(&life.key.queue, &placement.mode)
-        && life.key.pattern.matches(source.message.subject())
+        && life.key.pattern.matches(&source.message.subject().lent())
 }
 
 /// All bytes that the subscription is due of the publication, at a connection that takes headers or does not.

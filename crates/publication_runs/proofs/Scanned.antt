@@ -1,12 +1,13 @@
 -- What a scan has found, and that nothing stands there where it has found nothing.
 use Rattle.std.proofs.Common.{◌≡◌, ℕ, ◌+◌, ◌-◌, ◌<◌, ◌≤◌, true, false, List, [], ◌∷◌, ◌++◌, length, take, refl, ap, sym, ◌∙◌, subst, arith, append_assoc, length-append, Option, Some, None}
-use Rattle.std.specs.Prelude.{codes, is_none}
-use Rattle.std.specs.Bool.{Decides}
+use Rattle.std.specs.Prelude.{codes, is_none, is_some, not}
+use Rattle.std.specs.Str.{bytes_eq}
+use Rattle.std.proofs.lemmas.Slice.Eq.{bytes_eq-Decides}
 use Rattle.std.proofs.lemmas.List.{append_cancel_left}
 use Rattle.std.proofs.Math.Seq.{take-append_seam}
 use Rattle.subj.specs.declared.messages.Pub.{Pub}
 use Rattle.subj.specs.Names.{subject_fault}
-use Rattle.job_block.specs.declared.kept.TheConstants.{SHORT_BYTES}
+use Rattle.subj.specs.declared.limits.TheConstants.{MAX_PAYLOAD}
 use Rattle.job_block.specs.Publications.{lent_pub}
 use Rattle.line_fields.specs.LineEnd.{line_end}
 use Rattle.client_frames.specs.Arguments.{count_of}
@@ -14,7 +15,7 @@ use Rattle.client_frames.specs.Lines.{reply_fault}
 use Rattle.client_frames.specs.Messages.{reply_field}
 use Rattle.publication_runs.specs.Lines.{PubFields, line_text, IsPlainLine}
 use Rattle.publication_runs.specs.Runs.{Publication, fields_of, BeginsWith}
-use Rattle.publication_runs.specs.Cuts.{blank, cr, HasNo, IsCutAt, BeginsOtherwise, AreCut, BeginsWithFields, HasNoFields, HasNoShortLine, BeginsWithPayload, HasNoPayload}
+use Rattle.publication_runs.specs.Cuts.{blank, cr, HasNo, IsCutAt, BeginsOtherwise, AreCut, BeginsWithFields, HasNoFields, HasNoLine, HasNoLineOn, BeginsWithPayload, HasNoPayload}
 use Rattle.publication_runs.specs.States.{RunState}
 use Rattle.publication_runs.specs.Scans.{HasEnded}
 use Rattle.publication_runs.specs.Lent.{LentState, IsAheadAs}
@@ -66,8 +67,8 @@ as_fields : (line : List ℕ) (fields : PubFields) (size : ℕ) (rest : List ℕ
 as_fields line fields size rest plain =
     ap (λ l. l ++ rest) plain.whole ∙ append_assoc (line_text fields) line_end rest
 
-pub no_fields : (subject text : List ℕ) → HasNoFields text → HasNoShortLine subject text
-no_fields subject text none line fields size rest plain same short is =
+pub no_fields : (text : List ℕ) → HasNoFields text → HasNoLine text
+no_fields text none line fields size rest plain is =
     none fields rest (plain_is_cut line fields size plain) (is ∙ as_fields line fields size rest plain)
 
 -- any plain line there has the fields that were found
@@ -80,41 +81,41 @@ found_fields found text rest line fields size behind begins plain is =
     (cut_alike found fields rest behind begins.are_cut (plain_is_cut line fields size plain)
     (sym begins.whole ∙ is ∙ as_fields line fields size behind plain)).0
 
-pub no_size : (found : PubFields) (subject text rest : List ℕ)
+pub no_size : (found : PubFields) (text rest : List ℕ)
     → BeginsWithFields found text rest
     → None ≡ count_of found.digits
-    → HasNoShortLine subject text
-no_size found subject text rest begins none line fields size behind plain on short is =
+    → HasNoLine text
+no_size found text rest begins none line fields size behind plain is =
     let same = found_fields found text rest line fields size behind begins plain is in
     let sized : None ≡ Some size = none ∙ ap (λ f. count_of f.digits) same ∙ plain.is_size in
     absurd (cc)
 
-pub too_large : (found : PubFields) (subject text rest : List ℕ) (n : ℕ)
+pub too_large : (found : PubFields) (text rest : List ℕ) (n : ℕ)
     → BeginsWithFields found text rest
     → Some n ≡ count_of found.digits
-    → SHORT_BYTES < n
-    → HasNoShortLine subject text
-too_large found subject text rest n begins is_n above line fields size behind plain on short is =
+    → MAX_PAYLOAD < n
+    → HasNoLine text
+too_large found text rest n begins is_n above line fields size behind plain is =
     let same = found_fields found text rest line fields size behind begins plain is in
     let sized : Some n ≡ Some size = is_n ∙ ap (λ f. count_of f.digits) same ∙ plain.is_size in
     let alike : n ≡ size = cc in
-    let fits : size ≤ SHORT_BYTES = short in
+    let fits : size ≤ MAX_PAYLOAD = plain.fits in
     absurd (omega arith)
 
-pub other_subject : (found : PubFields) (subject text rest : List ℕ)
+pub bad_subject : (found : PubFields) (text rest : List ℕ)
     → BeginsWithFields found text rest
-    → Decides false (found.subject ≡ subject)
-    → HasNoShortLine subject text
-other_subject found subject text rest begins other line fields size behind plain on short is =
+    → true ≡ is_some (subject_fault found.subject)
+    → HasNoLine text
+bad_subject found text rest begins bad line fields size behind plain is =
     let same = found_fields found text rest line fields size behind begins plain is in
-    let never : false ≡ true = other.1 (ap (λ f. f.subject) same ∙ on) in
+    let good : true ≡ false = bad ∙ ap (λ f. is_some (subject_fault f.subject)) same ∙ ap is_some plain.is_subject in
     absurd (cc)
 
-pub bad_reply : (found : PubFields) (subject text rest : List ℕ)
+pub bad_reply : (found : PubFields) (text rest : List ℕ)
     → BeginsWithFields found text rest
     → false ≡ is_none (reply_fault found.reply)
-    → HasNoShortLine subject text
-bad_reply found subject text rest begins bad line fields size behind plain on short is =
+    → HasNoLine text
+bad_reply found text rest begins bad line fields size behind plain is =
     let same = found_fields found text rest line fields size behind begins plain is in
     let good : false ≡ true = bad ∙ ap (λ f. is_none (reply_fault f.reply)) same ∙ ap is_none plain.is_reply in
     absurd (cc)
@@ -124,6 +125,10 @@ bad_reply found subject text rest begins bad line fields size behind plain on sh
 none_by : {A : Type 0} (o : Option A) → true ≡ is_none o → o ≡ None
 none_by None is = refl
 none_by (Some x) is = absurd (cc)
+
+none_but : {A : Type 0} (o : Option A) → false ≡ is_some o → o ≡ None
+none_but None is = refl
+none_but (Some x) is = absurd (cc)
 
 front_of : (text line rest : List ℕ) → text ≡ line ++ rest → take (length text - length rest) text ≡ line
 front_of text line rest is =
@@ -140,30 +145,65 @@ rejoined found text rest begins =
     let is : text ≡ line ++ rest = begins.whole ∙ sym (append_assoc (line_text found) line_end rest) in
     is ∙ ap (λ l. l ++ rest) (sym (front_of text line rest is))
 
-pub plain_found : (found : PubFields) (subject text rest : List ℕ) (n : ℕ)
+pub plain_found : (found : PubFields) (text rest : List ℕ) (n : ℕ)
     → BeginsWithFields found text rest
     → Some n ≡ count_of found.digits
-    → n ≤ SHORT_BYTES
-    → Decides true (found.subject ≡ subject)
-    → subject_fault subject ≡ None
+    → n ≤ MAX_PAYLOAD
+    → false ≡ is_some (subject_fault found.subject)
     → true ≡ is_none (reply_fault found.reply)
     → IsPlainLine (take (length text - length rest) text) found n
-plain_found found subject text rest n begins is_n short on valid good = record {
+plain_found found text rest n begins is_n fits valid good = record {
   whole =
       front_of text (line_text found ++ line_end) rest
       (begins.whole ∙ sym (append_assoc (line_text found) line_end rest));
-  is_subject = ap subject_fault (on.0 refl) ∙ valid;
+  is_subject = none_but (subject_fault found.subject) valid;
   is_reply = none_by (reply_fault found.reply) good;
   is_size = sym is_n;
-  fits = omega arith;
+  fits = fits;
 }
+
+-- ---- a line on a subject
+
+pub no_line_on : (subject text : List ℕ) → HasNoLine text → HasNoLineOn subject text
+no_line_on subject text none line fields size rest plain on = none line fields size rest plain
+
+-- the text does not begin with `PUB`
+pub not_published : (subject text : List ℕ) → BeginsOtherwise (codes "PUB ") text → HasNoLineOn subject text
+not_published subject text otherwise line fields size rest plain on is =
+    otherwise (behind_word fields ++ (line_end ++ rest)) (is ∙ as_fields line fields size rest plain)
+
+-- the subject does not stand behind `PUB`
+pub not_on : (subject text front : List ℕ)
+    → text ≡ codes "PUB " ++ front
+    → BeginsOtherwise subject front
+    → HasNoLineOn subject text
+not_on subject text front begun otherwise line fields size rest plain on is =
+    otherwise ((codes " " ++ (reply_field fields.reply ++ fields.digits)) ++ (line_end ++ rest))
+    (append_cancel_left (codes "PUB ") front (behind_word fields ++ (line_end ++ rest))
+    (sym begun ∙ is ∙ as_fields line fields size rest plain)
+    ∙ append_assoc fields.subject (codes " " ++ (reply_field fields.reply ++ fields.digits)) (line_end ++ rest)
+    ∙ ap (λ s. s ++ ((codes " " ++ (reply_field fields.reply ++ fields.digits)) ++ (line_end ++ rest))) on)
+
+-- the line that stands there is on another
+pub on_another : (found : PubFields) (size : ℕ) (line subject text rest : List ℕ)
+    → IsPlainLine line found size
+    → text ≡ line ++ rest
+    → true ≡ not (bytes_eq found.subject subject)
+    → HasNoLineOn subject text
+on_another found size line subject text rest plain is other there fields most behind plainly on is_there =
+    let same = cut_alike found fields rest behind (plain_is_cut line found size plain)
+    (plain_is_cut there fields most plainly)
+    (sym (as_fields line found size rest plain) ∙ sym is ∙ is_there ∙ as_fields there fields most behind plainly) in
+    let equal = (bytes_eq-Decides found.subject subject).1 (ap (λ f. f.subject) same.0 ∙ on) in
+    let never : true ≡ false = other ∙ ap not equal in
+    absurd (cc)
 
 -- ---- a scan that has ended
 
-pub no_line_there : (subject : List ℕ) (s : RunState) → HasNoShortLine subject s.behind → HasEnded subject s
-no_line_there subject s none publication rest begins on short =
+pub no_line_there : (subject : List ℕ) (s : RunState) → HasNoLineOn subject s.behind → HasEnded subject s
+no_line_there subject s none publication rest begins on =
     absurd (none begins.line (fields_of publication begins.digits) (length publication.payload)
-    (publication.payload ++ (line_end ++ rest)) begins.is_line on short begins.whole)
+    (publication.payload ++ (line_end ++ rest)) begins.is_line on begins.whole)
 
 -- two plain lines at one place announce the same
 announced : (line : List ℕ) (fields : PubFields) (size : ℕ) (text behind : List ℕ) (publication : Publication)
@@ -190,7 +230,7 @@ pub no_payload_there : (subject : List ℕ) (s : RunState) (line : List ℕ) (fi
     → s.behind ≡ line ++ text
     → HasNoPayload size text
     → HasEnded subject s
-no_payload_there subject s line fields size text plain is none publication rest begins on short =
+no_payload_there subject s line fields size text plain is none publication rest begins on =
     let there = announced line fields size text s.behind publication rest plain is begins in
     absurd (none publication.payload rest (sym there.0) there.1)
 
@@ -199,14 +239,13 @@ no_payload_there subject s line fields size text plain is none publication rest 
 pub found_ahead : (s : LentState) (line : List ℕ) (fields : PubFields) (size : ℕ) (text payload behind : List ℕ)
     (given : Pub)
     → IsPlainLine line fields size
-    → size ≤ SHORT_BYTES
     → fields.subject ≡ s.subject
     → s.run.behind ≡ line ++ text
     → BeginsWithPayload size text payload behind
     → 0 < s.run.left
     → given ≡ lent_pub s.subject fields.reply payload s.echo
     → IsAheadAs behind given s
-found_ahead s line fields size text payload behind given plain short on is there more as_given =
+found_ahead s line fields size text payload behind given plain on is there more as_given =
     let sized : size ≡ length payload = sym there.is_size in
     record {
       publication = record { subject = fields.subject; reply = fields.reply; payload = payload };
@@ -217,7 +256,6 @@ found_ahead s line fields size text payload behind given plain short on is there
           is_line = subst (λ n. IsPlainLine line fields n) sized plain;
           whole = is ∙ ap (λ l. line ++ l) there.whole;
         };
-        short = omega arith;
         more = more;
       };
       is_on = on;

@@ -1,10 +1,9 @@
 -- How a text is cut.
-use Rattle.std.specs.Prelude.{◌≡◌, ◌≢◌, ℕ, ◌≤◌, false, List, ◌∷◌, ◌++◌, length, Option, Some, None}
+use Rattle.std.specs.Prelude.{◌≡◌, ◌≢◌, ℕ, false, List, ◌∷◌, ◌++◌, length, Option, Some, None}
 use Rattle.std.specs.List.{list_any}
 use Rattle.std.specs.Option.{option_copied}
 use Rattle.memchr.specs.Find.{is_byte}
 use Rattle.line_fields.specs.LineEnd.{line_end}
-use Rattle.job_block.specs.declared.kept.TheConstants.{SHORT_BYTES}
 use Rattle.publication_runs.specs.declared.cuts.LineFields.{LineFields}
 use Rattle.publication_runs.specs.Lines.{PubFields, line_text, IsPlainLine}
 
@@ -57,14 +56,19 @@ HasNoFields text =
     → AreCut fields
     → text ≢ line_text fields ++ (line_end ++ rest)
 
--- the text begins with no line of a publication on this subject that is plainly written and
--- announces a short payload
-abbrev pub HasNoShortLine : List ℕ → List ℕ → Type 0
-HasNoShortLine subject text =
+-- the text begins with no line of a publication that is plainly written
+abbrev pub HasNoLine : List ℕ → Type 0
+HasNoLine text =
+    (line : List ℕ) (fields : PubFields) (size : ℕ) (rest : List ℕ)
+    → IsPlainLine line fields size
+    → text ≢ line ++ rest
+
+-- none that is on this subject
+abbrev pub HasNoLineOn : List ℕ → List ℕ → Type 0
+HasNoLineOn subject text =
     (line : List ℕ) (fields : PubFields) (size : ℕ) (rest : List ℕ)
     → IsPlainLine line fields size
     → fields.subject ≡ subject
-    → size ≤ SHORT_BYTES
     → text ≢ line ++ rest
 
 -- ---- a payload

@@ -1,9 +1,8 @@
 //! Publications on one subject that stand one behind another at the beginning of a text, read in one pass.
 //!
 //! ```text
-//! let subject = Subject::read(alloc, b"a")?;
 //! let text = b"PUB a 2\r\nhi\r\nPUB a 2\r\nho\r\nPING\r\n";
-//! if let Some(mut run) = LentRun::new(text, &subject, 32, true) {
+//! if let Some(mut run) = LentRun::new(text, 32, true) {
 //!     while let Some(ahead) = run.peek() {
 //!         serve(&ahead.publication);
 //!         run.pass(&ahead);

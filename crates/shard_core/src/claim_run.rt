@@ -23,7 +23,7 @@ use client_frames::MessageTails;
 use job_block::{JobSlice, LentJob};
 use std::alloc::{AllocError, Global};
 use sub_table::SubTable;
-use subj::{MAX_COUNTER, QueueName, SubId, Turn};
+use subj::{LentSubject, MAX_COUNTER, QueueName, SubId, Turn};
 
 /// Who decides the claims of a shard, with its seat: of the queue name of index 0, in the turn behind the last that it finished.
 pub trait Claims<S> {
@@ -154,8 +154,8 @@ impl<'a> ClaimJobs<'a> {
     }
 
     /// What they are published on.
-    pub fn subject(&self) -> &[u8]
-        ensures { result.now ≡ self.now.first.message.subject }
+    pub fn subject(&self) -> LentSubject<'a>
+        ensures { result ≡ self.now.first.message.subject }
     {
         self.first.subject()
     }
@@ -272,7 +272,7 @@ fn open<T: SubTable>(
         → IsOpenFor result claims.now.first claims.now.name.now openings.now.subs conns.now.next
         members.new.items }
 {
-    match openings.receivers(claims.subject()) {
+    match openings.receivers(claims.subject().bytes()) {
         None => 0,
         Some(receivers) => note_members(members, conns, claims, receivers).unwrap_or(0),
     }
@@ -302,7 +302,7 @@ fn stage<T: SubTable>(
         at conns.old.next conns.new.next) }
     ensures err { OnErr result (conns.new.next ≡ conns.old.next) }
 {
-    let Some(receivers) = openings.receivers(claims.subject()) else {
+    let Some(receivers) = openings.receivers(claims.subject().bytes()) else {
         return Err(AllocError);
     };
     let member = buffer.members[at];
@@ -451,7 +451,7 @@ fn work_next<T: SubTable, S, C: Claims<S>>(
     Ok(won)
 }
 
-/// Works these jobs one after the other, as many as it can, where all who receive their subject are noted. Gives how many.
+/// Works these jobs one after the other, as many as it can, where few receive their subject. Gives how many.
 pub fn work_claims<T: SubTable, S, C: Claims<S>>(
     buffer: &mut ClaimBuffer,
     conns: &mut Conns,
@@ -480,6 +480,7 @@ pub fn work_claims<T: SubTable, S, C: Claims<S>>(
         openings.new.subs }
     ensures told { AreTold conns.old.shown conns.new.shown dirty_conns.old dirty_conns.new }
 {
+    openings.note_for_run(&claims.subject());
     let most = open(&mut buffer.members, conns, openings, claims);
     for place in 0..most {
         buffer.next = place;

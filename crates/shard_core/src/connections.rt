@@ -23,7 +23,7 @@ use outbox::{Entry, LAST_LINE_TEXT, Mode, Outbox, RunTails};
 use std::alloc::{AllocError, Global};
 use std::marker::Model;
 use sub_table::SubTable;
-use subj::{ConnId, OUTBOX_BYTES, OUTBOX_ENTRIES, PubId, SubId, Subject};
+use subj::{ConnId, LentSubject, OUTBOX_BYTES, OUTBOX_ENTRIES, PubId, SubId};
 
 /// A connection.
 #[derive(Drop)]
@@ -455,7 +455,12 @@ impl Conns {
 
     /// Whether each connection has room for the messages to all its open subscriptions that get the subject. In the form that the
     /// connection is due a message has so many bytes beside the id of a subscription. Takes no memory.
-    pub fn have_room<T: SubTable>(&self, table: &T, subject: &Subject, lengths: FormLengths) -> bool
+    pub fn have_room<T: SubTable>(
+        &self,
+        table: &T,
+        subject: &LentSubject<'_>,
+        lengths: FormLengths,
+    ) -> bool
         ensures { result
             ≡ list_all (λ client.
             is_room (form_length lengths client.headers) (room_left client)

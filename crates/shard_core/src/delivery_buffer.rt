@@ -475,7 +475,7 @@ impl DeliveryBuffer {
             (λ s w. walk s job.now (filter (is_due job.now) s.subs) w) conns.old.next self.old
             conns.new.next self.new) }
     {
-        let matching = openings.table().matching(job.message.subject())?;
+        let matching = openings.table().matching(&job.message.subject().lent())?;
         self.put_due(conns, openings, job, &matching)
     }
 }
@@ -529,7 +529,7 @@ pub fn place_all<T: SubTable>(
     ensures err { OnErr result ((conns.new ≡ conns.old) × (openings.new ≡ openings.old)) }
     ensures told { AreTold conns.old.shown conns.new.shown dirty_conns.old dirty_conns.new }
 {
-    openings.remember(job.message.subject());
+    openings.remember(&job.message.subject().lent());
     let Ok(ended) = stage(buffer, tails, conns, openings, job) else {
         conns.rollback();
         return Err(AllocError);

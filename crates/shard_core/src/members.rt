@@ -8,7 +8,7 @@ ghost use Rattle.shard_core.specs.Tallies.{lent_subs};
 
 use std::alloc::{AllocError, Global};
 use sub_table::Subscription;
-use subj::Subject;
+use subj::LentSubject;
 
 /// What a mark is multiplied by at each byte: that of the Fowler-Noll-Vo hash.
 const MARK_FACTOR: u64 = 1_099_511_628_211;
@@ -80,7 +80,7 @@ impl Members {
     }
 
     /// The members that match the subject, where they are noted.
-    pub fn of(&self, subject: &Subject) -> Option<&[Member]>
+    pub fn of(&self, subject: &LentSubject<'_>) -> Option<&[Member]>
         ensures { (subs : List Opened)
             → AreNoted subs self.now
             → IfSome result (λ members. members.now ≡ members_of (filter (gets subject.now) subs)) }
@@ -92,7 +92,11 @@ impl Members {
     }
 
     /// Notes the members among those that match the subject. Want of memory leaves none noted.
-    pub fn note(&mut self, subject: &Subject, matching: &[&Subscription]) -> Result<(), AllocError>
+    pub fn note(
+        &mut self,
+        subject: &LentSubject<'_>,
+        matching: &[&Subscription],
+    ) -> Result<(), AllocError>
         ensures { (subs : List Opened)
             → lent_subs matching.now ≡ filter (gets subject.now) subs
             → AreNoted subs self.new }

@@ -18,7 +18,7 @@ use crate::receiver::Receiver;
 use std::alloc::{AllocError, Global};
 use std::marker::Model;
 use sub_table::{SubTable, Subscription};
-use subj::{ConnId, Delta, QueueName, Subject};
+use subj::{ConnId, Delta, LentSubject, QueueName};
 
 /// Takes the memory of so many closing deltas, of an opening one, and of the closing one that is to follow it.
 fn reserve_for(deltas: &mut Vec<Delta>, closings: usize) -> Result<(), AllocError>
@@ -174,7 +174,7 @@ impl<T: SubTable> Openings<T> {
 
     /// Tells that the subject will be looked up. Where its jobs come in a row, and there is memory, [`Openings::receivers`] has
     /// those who receive it from here on, and else the table may find them sooner.
-    pub fn remember(&mut self, subject: &Subject)
+    pub fn remember(&mut self, subject: &LentSubject<'_>)
         ensures { self.new ≡ self.old }
     {
         if self.notes.receivers.of(subject.bytes()).is_some() {
@@ -187,12 +187,26 @@ impl<T: SubTable> Openings<T> {
     }
 
     /// Notes who receives the subject, where they are few, and who of these are members of queue groups; where there is memory.
-    fn note_receivers(&mut self, subject: &Subject)
+    fn note_receivers(&mut self, subject: &LentSubject<'_>)
         ensures { self.new ≡ self.old }
     {
         if let Ok(matching) = self.table.matching(subject) {
             let _ = self.notes.receivers.note(self.alloc, subject, &matching);
             let _ = self.notes.members.note(subject, &matching);
+        }
+    }
+
+    /// Tells that jobs of the subject will be worked in one call: [`Openings::receivers`] has those who receive it from here on, where they
+    /// are few and there is memory.
+    pub fn note_for_run(&mut self, subject: &LentSubject<'_>)
+        ensures { self.new ≡ self.old }
+    {
+        if self.notes.receivers.of(subject.bytes()).is_some() {
+            return;
+        }
+        self.table.remember(subject);
+        if let Ok(matching) = self.table.matching(subject) {
+            let _ = self.notes.receivers.note(self.alloc, subject, &matching);
         }
     }
 
@@ -207,7 +221,7 @@ impl<T: SubTable> Openings<T> {
 
     /// Notes the members of queue groups that match the subject, where there is memory: [`Openings::members`]
     /// finds them sooner then.
-    pub fn note_members(&mut self, subject: &Subject)
+    pub fn note_members(&mut self, subject: &LentSubject<'_>)
         ensures { self.new ≡ self.old }
     {
         if self.notes.members.of(subject).is_some() {
@@ -222,7 +236,7 @@ impl<T: SubTable> Openings<T> {
     /// order of opening, and perhaps others.
     pub fn members(
         &self,
-        subject: &Subject,
+        subject: &LentSubject<'_>,
         name: &QueueName,
     ) -> Result<Vec<&Subscription>, AllocError>
         ensures all { IfOk result (λ subs.

@@ -111,7 +111,7 @@ fn open_candidates<'a, T: SubTable>(
         (filter (gets claim.now.job.now.message.subject) openings.now.subs)) }
     ensures rising { AreRising openings.now.subs }
 {
-    let mut subs = openings.members(claim.job.message.subject(), claim.name)?;
+    let mut subs = openings.members(&claim.job.message.subject().lent(), claim.name)?;
     keep_candidates(claim, lines, conns, &mut subs);
     Ok(subs)
 }

@@ -9,7 +9,7 @@ use client_frames::message_head;
 use std::alloc::{AllocError, Global};
 use std::marker::Model;
 use sub_table::Subscription;
-use subj::{ConnId, QueueName, Subject};
+use subj::{ConnId, LentSubject, QueueName};
 
 /// An open subscription that receives a subject, with what a delivery needs of it.
 ///
@@ -57,7 +57,7 @@ impl Receiver {
     /// The receiver of the subject that this open subscription is.
     pub(crate) fn new(
         alloc: Global,
-        subject: &Subject,
+        subject: &LentSubject<'_>,
         sub: &Subscription,
     ) -> Result<Receiver, AllocError>
         ensures { IfOk result (λ receiver. receiver ≡ receiver_of subject.now sub.now) }

@@ -10,7 +10,7 @@ ghost use Rattle.shard_core.specs.Tallies.{lent_subs};
 use crate::receiver::Receiver;
 use std::alloc::{AllocError, Global};
 use sub_table::Subscription;
-use subj::Subject;
+use subj::LentSubject;
 
 /// The most receivers of a subject that are noted. Where there are more they are looked up for each job: that costs little beside
 /// what is placed for so many, and so the notes take at most about 150 KB.
@@ -19,7 +19,7 @@ const MOST_RECEIVERS: usize = 128;
 /// Puts the receivers that these subscriptions are behind those that are there.
 fn push_receivers(
     alloc: Global,
-    subject: &Subject,
+    subject: &LentSubject<'_>,
     matching: &[&Subscription],
     receivers: &mut Vec<Receiver>,
 ) -> Result<(), AllocError>
@@ -79,7 +79,7 @@ impl Receivers {
 
     /// Counts one more job of the subject. Whether it is the second in a row, so that its receivers are worth noting: those of the
     /// first may be asked for once. None are noted then.
-    pub fn is_second(&mut self, subject: &Subject) -> bool
+    pub fn is_second(&mut self, subject: &LentSubject<'_>) -> bool
         ensures { (subs : List Opened) → AreReceivers subs self.new }
     {
         self.noted = false;
@@ -99,7 +99,7 @@ impl Receivers {
     pub fn note(
         &mut self,
         alloc: Global,
-        subject: &Subject,
+        subject: &LentSubject<'_>,
         matching: &[&Subscription],
     ) -> Result<(), AllocError>
         ensures { (subs : List Opened)

@@ -261,13 +261,13 @@ fn stage_noted<T: SubTable>(
         (receivers_of first.now.message.subject
         (filter (gets first.now.message.subject) openings.now.subs))) }
 {
-    match openings.receivers(first.subject()) {
+    match openings.receivers(first.subject().bytes()) {
         None => Ok(false),
         Some(receivers) => stage_run(buffer, conns, shard, first, jobs, receivers),
     }
 }
 
-/// Delivers a run of jobs that go together to all who receive their subject, where these are noted and can all take it: shows what it
+/// Delivers a run of jobs that go together to all who receive their subject, where these are few and can all take it: shows what it
 /// puts, notes for whom it is, and counts. Tells whether it did; where not, and for want of memory, all is as it was.
 #[tactic(auto, using(crate::proofs::Clients::Told::nothing_put))]
 pub fn put_run<T: SubTable>(
@@ -295,6 +295,7 @@ pub fn put_run<T: SubTable>(
     ensures err { OnErr result ((conns.new ≡ conns.old) × (openings.new ≡ openings.old)) }
     ensures told { AreTold conns.old.shown conns.new.shown dirty_conns.old dirty_conns.new }
 {
+    openings.note_for_run(&first.subject());
     let Ok(put) = stage_noted(buffer, conns, openings, shard, first, jobs) else {
         conns.rollback();
         return Err(AllocError);

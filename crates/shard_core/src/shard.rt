@@ -183,7 +183,7 @@ fn note_members_for<T: SubTable>(job: &Job, openings: &mut Openings<T>)
     ensures { openings.new ≡ openings.old }
 {
     if job.queues.as_slice().len() > 1 {
-        openings.note_members(job.message.subject());
+        openings.note_members(&job.message.subject().lent());
     }
 }
 
@@ -551,7 +551,7 @@ impl<T: SubTable> Shard<T> {
     {
         let table = self.openings.table();
         self.conns
-            .have_room(table, message.subject(), message_lengths(message))
+            .have_room(table, &message.subject().lent(), message_lengths(message))
     }
 
     /// Whether the connections that are told next are to be asked for soon ([`DirtyConns::is_urgent`]).

@@ -3,7 +3,7 @@
 //! ```text
 //! let mut table = ListTable::new(alloc)?;
 //! table.add(Subscription { serial: 1, conn, key, sid, delivered: 0, max: None })?;
-//! let found = table.matching(&subject)?;
+//! let found = table.matching(&subject.lent())?;
 //! ```
 #![tactic(auto)]
 
@@ -13,7 +13,7 @@ ghost use Rattle.std.specs.Option.{option_copied};
 ghost use Rattle.sub_table.specs.Subscriptions.{total_cost, gets, is_of_another, has_serial, without_serial, serial_called, serials_of, CountFits, CountsFit, with_more, with_one_more, with_max, matching_of, is_room, room_left as left_of_room};
 
 use std::alloc::{AllocError, Global};
-use subj::{ConnId, Key, Sid, Subject};
+use subj::{ConnId, Key, LentSubject, Sid};
 
 /// An open subscription. (NATS documentation, "Client Protocol": `SUB`.)
 #[derive(Drop)]
@@ -43,7 +43,7 @@ pub struct Room {
 /// all of it. The message has so many bytes beside the id of the subscription. None where there is no room for it.
 pub fn room_left(
     conn: ConnId,
-    subject: &Subject,
+    subject: &LentSubject<'_>,
     len: usize,
     sub: &Subscription,
     room: Room,
@@ -98,17 +98,17 @@ pub trait SubTable: Sized + Drop {
 
     /// Tells that the subject will be looked up. A table may keep in mind what matches it until
     /// another is opened or closed, and finds that sooner; where memory is wanting it doesn't.
-    fn remember(&mut self, subject: &Subject)
+    fn remember(&mut self, subject: &LentSubject<'_>)
         ensures { contents self.new ≡ contents self.old };
 
     /// Those whose pattern matches the subject, in order of opening.
-    fn matching(&self, subject: &Subject) -> Result<Vec<&Subscription>, AllocError>
+    fn matching(&self, subject: &LentSubject<'_>) -> Result<Vec<&Subscription>, AllocError>
         ensures { IfOk result (λ subs.
             map (λ sub. sub.now) subs.items ≡ filter (gets subject.now) (contents self.now)) };
 
     /// Whether there is room for a message to each subscription of the connection whose pattern matches the subject. The
     /// message has so many bytes beside the id of the subscription. Takes no memory.
-    fn has_room(&self, conn: ConnId, subject: &Subject, len: usize, room: Room) -> bool
+    fn has_room(&self, conn: ConnId, subject: &LentSubject<'_>, len: usize, room: Room) -> bool
         ensures { result ≡ is_room len room (matching_of conn subject.now (contents self.now)) };
 
     /// Puts the serials of a connection's subscriptions behind those that are there, in order of
@@ -201,9 +201,9 @@ impl SubTable for ListTable {
         None
     }
 
-    fn remember(&mut self, _subject: &Subject) {}
+    fn remember(&mut self, _subject: &LentSubject<'_>) {}
 
-    fn matching(&self, subject: &Subject) -> Result<Vec<&Subscription>, AllocError> {
+    fn matching(&self, subject: &LentSubject<'_>) -> Result<Vec<&Subscription>, AllocError> {
         let mut subs = Vec::new(self.alloc);
         for sub in &self.subs {
             if sub.key.pattern.matches(subject) {
@@ -213,7 +213,7 @@ impl SubTable for ListTable {
         Ok(subs)
     }
 
-    fn has_room(&self, conn: ConnId, subject: &Subject, len: usize, room: Room) -> bool {
+    fn has_room(&self, conn: ConnId, subject: &LentSubject<'_>, len: usize, room: Room) -> bool {
         let mut room = room;
         for sub in &self.subs {
             let Some(left) = room_left(conn, subject, len, sub, room) else {

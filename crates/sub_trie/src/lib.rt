@@ -4,7 +4,7 @@
 //! let mut table = TrieTable::new(alloc)?;
 //! table.add(sub)?;
 //! table.remember(&subject);
-//! let found = table.matching(&subject)?;
+//! let found = table.matching(&subject.lent())?;
 //! ```
 //!
 //! In reading order: `table` is the table; `opened` has the open subscriptions with a trie of them, and `groups` the serials under a key,

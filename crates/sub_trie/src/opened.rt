@@ -15,7 +15,7 @@ use pattern_trie::PatternTrie;
 use std::alloc::{AllocError, Global};
 use std::collections::HashMap;
 use sub_table::{Room, Subscription, room_left};
-use subj::{ConnId, Subject};
+use subj::{ConnId, LentSubject};
 
 /// Open subscriptions, each under its serial, and their serials in a trie of patterns.
 #[derive(Drop)]
@@ -94,7 +94,7 @@ impl Opened {
     }
 
     /// The serials of those whose pattern matches the subject, in order of opening.
-    fn serials_for(&self, subject: &Subject) -> Result<Vec<u64>, AllocError>
+    fn serials_for(&self, subject: &LentSubject<'_>) -> Result<Vec<u64>, AllocError>
         ensures { IfOk result (λ serials.
             serials.items ≡ serials_for subject.now (subs_in_order self.now.subs)) }
     {
@@ -125,7 +125,7 @@ impl Opened {
         &self,
         serials: &[u64],
         conn: ConnId,
-        subject: &Subject,
+        subject: &LentSubject<'_>,
         len: usize,
         room: Room,
     ) -> bool
@@ -148,7 +148,10 @@ impl Opened {
     }
 
     /// Those whose pattern matches the subject, in order of opening.
-    pub(crate) fn matching(&self, subject: &Subject) -> Result<Vec<&Subscription>, AllocError>
+    pub(crate) fn matching(
+        &self,
+        subject: &LentSubject<'_>,
+    ) -> Result<Vec<&Subscription>, AllocError>
         ensures { IfOk result (λ subs.
             map (λ sub. sub.now) subs.items
             ≡ filter (gets subject.now) (subs_in_order self.now.subs)) }
@@ -164,7 +167,7 @@ impl Opened {
     }
 
     /// Keeps in mind which match the subject, where it was told often and there is memory.
-    pub(crate) fn remember(&mut self, subject: &Subject)
+    pub(crate) fn remember(&mut self, subject: &LentSubject<'_>)
         ensures { subs_in_order self.new.subs ≡ subs_in_order self.old.subs }
     {
         if self.len() > 0 && self.recent.is_due() {
@@ -174,7 +177,7 @@ impl Opened {
 
     /// Keeps in mind which match the subject, where there is memory.
     #[inline(never)]
-    fn keep_in_mind(&mut self, subject: &Subject)
+    fn keep_in_mind(&mut self, subject: &LentSubject<'_>)
         ensures { subs_in_order self.new.subs ≡ subs_in_order self.old.subs }
     {
         if self.recent.recall(subject.bytes()).is_some() {

@@ -10,20 +10,20 @@ use std::alloc::{AllocError, Global};
 use std::hash::{FoldHasher, Hasher};
 
 /// How many places there are that a subject may begin at.
-const PLACES: u64 = 4_096;
+const PLACES: u64 = 16_384;
 
 /// A subject is kept in one of so many slots from its place on.
 const WAYS: usize = 4;
 
 /// How many slots there are: so many from the last place on, too.
-const SLOTS: usize = 4_099;
+const SLOTS: usize = 16_387;
 
 /// Of the subjects that are told, one in so many is looked for, and kept where it is not: one that comes once
 /// costs little, and one that comes often is soon there.
 const TOLD_FOR_EACH_KEPT: u64 = 8;
 
 /// A subject that matches more is not kept: looking it up again costs little beside what it matches.
-const MOST_SERIALS: usize = 128;
+const MOST_SERIALS: usize = 32;
 
 /// The serials that recent subjects matched. Whatever is opened or closed begins a new generation, and what
 /// was written in an earlier one counts no longer.

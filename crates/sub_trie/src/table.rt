@@ -15,7 +15,7 @@ use arrayvec::ArrayVec;
 use std::alloc::{AllocError, Global};
 use std::collections::HashMap;
 use sub_table::{Room, SubTable, Subscription};
-use subj::{ConnId, MAX_SID, Sid, Subject};
+use subj::{ConnId, LentSubject, MAX_SID, Sid};
 
 /// A connection, and what it calls a subscription.
 type Called = (u64, ArrayVec<u8, MAX_SID>);
@@ -125,15 +125,15 @@ impl SubTable for TrieTable {
         first_serial(&self.by_sid, &call_key(conn, sid))
     }
 
-    fn remember(&mut self, subject: &Subject) {
+    fn remember(&mut self, subject: &LentSubject<'_>) {
         self.opened.remember(subject);
     }
 
-    fn matching(&self, subject: &Subject) -> Result<Vec<&Subscription>, AllocError> {
+    fn matching(&self, subject: &LentSubject<'_>) -> Result<Vec<&Subscription>, AllocError> {
         self.opened.matching(subject)
     }
 
-    fn has_room(&self, conn: ConnId, subject: &Subject, len: usize, room: Room) -> bool {
+    fn has_room(&self, conn: ConnId, subject: &LentSubject<'_>, len: usize, room: Room) -> bool {
         let serials = serials_under(&self.by_conn, &conn.get());
         self.opened.has_room(serials, conn, subject, len, room)
     }

@@ -3,7 +3,7 @@
 //! ```text
 //! let pattern = Pattern::read(alloc, b"orders.*")?;
 //! let subject = Subject::read(alloc, b"orders.new")?;
-//! assert!(rt; pattern.matches(&subject));
+//! assert!(rt; pattern.matches(&subject.lent()));
 //! ```
 //!
 //! In reading order: `limits` has every limit by its name; `names` and `scans` judge bytes, which `subjects`, `patterns`,
@@ -51,5 +51,5 @@ pub use patterns::Pattern;
 pub use queue_names::QueueName;
 pub use servers::ServerIdentity;
 pub use sids::Sid;
-pub use subjects::{Reply, Subject};
+pub use subjects::{LentSubject, Reply, Subject};
 pub use turns::{Busy, Finished, Turn};

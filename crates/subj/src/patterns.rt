@@ -12,7 +12,7 @@ use crate::faults::NameFault;
 use crate::limits::MAX_SUBJECT;
 use crate::names::{is_one_wildcard, is_rest_wildcard, split_token};
 use crate::scans::Scan;
-use crate::subjects::Subject;
+use crate::subjects::LentSubject;
 use std::alloc::{AllocError, Global};
 use std::marker::Model;
 
@@ -86,7 +86,7 @@ impl Pattern {
     }
 
     /// Whether the pattern matches the subject. Takes no memory. (NATS documentation, "Wildcards".)
-    pub fn matches(&self, subject: &Subject) -> bool
+    pub fn matches(&self, subject: &LentSubject<'_>) -> bool
         ensures { result ≡ subject_matches self.now subject.now }
     {
         tokens_match(&self.text, subject.bytes())

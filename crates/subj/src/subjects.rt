@@ -1,6 +1,6 @@
 //! What messages are published on.
 
-ghost use Rattle.std.specs.Prelude.{◌≡◌, ◌≤◌, length, None, IfOk, ⊤};
+ghost use Rattle.std.specs.Prelude.{◌≡◌, ◌≤◌, length, None, is_none, is_some, IfOk, IfSome, ⊤};
 ghost use Rattle.subj.specs.Answers.{IsAnswered, IsDecided};
 ghost use Rattle.subj.specs.Names.{subject_fault};
 
@@ -86,11 +86,76 @@ impl Subject {
         self.text.as_slice()
     }
 
+    /// The subject, where it stands.
+    pub fn lent(&self) -> LentSubject<'_>
+        ensures { result ≡ self.now }
+    {
+        LentSubject { text: &self.text }
+    }
+
     /// A copy of the subject, which shares its bytes.
     pub fn try_clone(&self) -> Result<Subject, AllocError>
         ensures { IfOk result (λ subject. subject ≡ self.now) }
     {
         let text = self.text.clone()?;
+        Ok(Subject { text })
+    }
+}
+
+/// A subject that stands among other bytes, as in what was read: nothing of it is copied.
+///
+/// Seen as its bytes, which are those of a [`Subject`].
+#[derive(Drop)]
+pub struct LentSubject<'a> {
+    text: &'a [u8],
+}
+
+impl<'a> Model for LentSubject<'a> {
+    ghost use Rattle.std.specs.Prelude.{◌≡◌, ℕ, List, None};
+    ghost use Rattle.subj.specs.Names.{subject_fault};
+
+    ghost Value = { List ℕ };
+
+    ghost view = { λ subject. subject.text.now };
+
+    ghost invariant = { λ subject. subject_fault subject.text.now ≡ None };
+}
+
+impl<'a> LentSubject<'a> {
+    /// The subject that these bytes are. None just where [`Subject::fault`] tells a cause. Takes no memory.
+    pub fn read(text: &'a [u8]) -> Option<LentSubject<'a>>
+        ensures some { IfSome result (λ subject. subject ≡ text.now) }
+        ensures none { is_some result ≡ is_none (subject_fault text.now) }
+    {
+        match Subject::fault(text) {
+            Some(_) => None,
+            None => Some(LentSubject { text }),
+        }
+    }
+
+    /// The subject that these bytes are. Required: [`Subject::fault`] tells no cause. Takes no memory.
+    pub fn of(text: &'a [u8]) -> LentSubject<'a>
+        requires { subject_fault text.now ≡ None }
+        ensures { result ≡ text.now }
+    {
+        LentSubject { text }
+    }
+
+    /// The bytes of the name.
+    #[tactic(auto, using(crate::proofs::Fits::subject_fits))]
+    pub fn bytes(&self) -> &'a [u8]
+        ensures same { result.now ≡ self.now }
+        ensures valid { subject_fault self.now ≡ None }
+        ensures fits { length result.now ≤ MAX_SUBJECT }
+    {
+        self.text
+    }
+
+    /// A subject of its own, with a copy of the bytes.
+    pub fn to_subject(&self, alloc: Global) -> Result<Subject, AllocError>
+        ensures { IfOk result (λ subject. subject ≡ self.now) }
+    {
+        let text = Bytes::copy_from_slice(alloc, self.text)?;
         Ok(Subject { text })
     }
 }

@@ -11,7 +11,7 @@ use client_frames::Awaited;
 use publication_runs::{LentRun, run_is_read};
 
 impl ItemReader {
-    /// The publications that are lent, at most so many, where one begins on the subject of the last one.
+    /// The publications that are lent, at most so many.
     #[inline(always)]
     fn lent_run(&self, most: usize, echo: bool) -> Option<LentRun<'_>>
         ensures { IfSome result (λ lent.
@@ -22,15 +22,13 @@ impl ItemReader {
         if self.ended || !matches!(self.awaited, Awaited::Line) {
             return None;
         }
-        let subject = self.texts.last_subject()?;
-        LentRun::new(self.cutter.unread(), subject, most, echo)
+        LentRun::new(self.cutter.unread(), most, echo)
     }
 }
 
 impl Conn {
-    /// The publications that are lent, at most so many: those of a client that is not told of what is done, where nothing else stands to
-    /// be asked, on the subject of the last one. Whoever has published some of them says so ([`Conn::use_up_to`]); all others are what
-    /// [`Conn::next`] asks.
+    /// The publications on one subject that are lent, at most so many: those of a client that is not told of what is done, where nothing
+    /// else stands to be asked. Whoever has published some of them says so ([`Conn::use_up_to`]); all others are what [`Conn::next`] asks.
     #[inline(always)]
     pub fn lent_run(&self, most: usize) -> Option<LentRun<'_>>
         ensures lent { IfSome result (IsRunOf self.now) }

@@ -43,7 +43,7 @@ impl<T: SubTable, R: Race> Node<T, R> {
     pub fn has_few_names(&self, subject: &Subject) -> bool
         ensures { result ≡ are_few self.now.server self.now.node.hub subject.now }
     {
-        self.side.hub().has_few_names(subject)
+        self.side.hub().has_few_names(&subject.lent())
     }
 
     /// Whether each connection has room for the messages that its open subscriptions are due of this one, all together.

@@ -274,17 +274,16 @@ one_issued shards conn w said queues from between to origin turn side part jobs 
 pub record IsRunning (shards conn count : ℕ) (queues : List (List ℕ)) (from to : LentState) (old new : AtHub) :
     Type 0 where
   pub issues : IssuesRun shards conn count from to old new
-  pub last : IsLast (Some conn) to.subject to.echo queues new.issued
+  pub last : 0 < count → IsLast (Some conn) to.subject to.echo queues new.issued
   pub finished : new.finished ≡ old.finished
   pub server : new.side.server ≡ old.side.server
   pub hub : new.side.hub ≡ behind_local count old.side.hub
 
 pub begins : (shards conn : ℕ) (queues : List (List ℕ)) (from : LentState) (w : AtHub)
-    → IsLast (Some conn) from.subject from.echo queues w.issued
     → IsRunning shards conn 0 queues from from w w
-begins shards conn queues from w last = record {
+begins shards conn queues from w = record {
   issues = no_run shards conn from from w w refl refl;
-  last = last;
+  last = λ some. absurd (omega (arith, some));
   finished = refl;
   server = refl;
   hub = (λ k. record w.side.hub { issued = none w.side.hub.issued k; published = none w.side.hub.published k });
@@ -326,7 +325,7 @@ pub runs_on : (shards conn count : ℕ) (queues : List (List ℕ)) (from between
     → IsRunning shards conn (count + 1) queues from to old new
 runs_on shards conn count queues from between to old mid new r one last finished server hub = record {
   issues = runs_more shards conn count 1 from between to old mid new r.issues one;
-  last = last;
+  last = λ some. last;
   finished = finished ∙ r.finished;
   server = server ∙ r.server;
   hub =
@@ -346,3 +345,14 @@ pub runs_out : (shards conn count : ℕ) (queues : List (List ℕ)) (from betwee
 runs_out shards conn count queues from between to old mid new r none =
     subst (λ n. IssuesRun shards conn n from to old new) (let same : count + 0 ≡ count = omega arith in same)
     (runs_more shards conn count 0 from between to old mid new r.issues none)
+
+-- the first is issued
+pub runs_first : (shards conn : ℕ) (queues : List (List ℕ)) (from to : LentState) (old new : AtHub)
+    → IssuesRun shards conn 1 from to old new
+    → IsLast (Some conn) to.subject to.echo queues new.issued
+    → new.finished ≡ old.finished
+    → new.side.server ≡ old.side.server
+    → new.side.hub ≡ behind_local 1 old.side.hub
+    → IsRunning shards conn 1 queues from to old new
+runs_first shards conn queues from to old new =
+    runs_on shards conn 0 queues from from to old old new (begins shards conn queues from old)

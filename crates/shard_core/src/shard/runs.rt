@@ -12,16 +12,13 @@ use std::alloc::AllocError;
 use sub_table::SubTable;
 
 impl<T: SubTable> Shard<T> {
-    /// Whether a run may begin with this job: no other is in hand, it has a short message and claims no queue name, who receives its
-    /// subject is noted, and no run of it was tried in vain.
+    /// Whether a run may begin with this job: no other is in hand, it has a short message and claims no queue name, and no run of it was
+    /// tried in vain.
     fn may_begin_run(&self, first: &LentJob<'_>) -> bool
         ensures hand { result ≡ true → self.now.state.hand ≡ None }
         ensures begins { result ≡ true → GoesWith first.now first.now }
     {
-        self.hand.is_none()
-            && first.turn() > self.tried
-            && may_begin(first)
-            && self.openings.receivers(first.subject()).is_some()
+        self.hand.is_none() && first.turn() > self.tried && may_begin(first)
     }
 
     /// Delivers as many of these jobs at once as it can, from the first on, and finishes their turns: each receiver gets all its
@@ -29,9 +26,9 @@ impl<T: SubTable> Shard<T> {
     /// nothing closed. Gives how many jobs these were.
     ///
     /// None where the first one has to go that way: where a job is in hand, or the turn is not the one behind the last that was
-    /// finished; where it claims a queue name, has a header block or a long payload; where who receives its subject is not noted yet; or
-    /// where it is alone, since the next job has another subject or publisher. None either where one of the receivers has a maximum, or
-    /// its connection is shut, has no room for the whole run, or has another receiver of it. Want of memory leaves the state as it was.
+    /// finished; where it claims a queue name, or has a header block or a long payload. None either where many receive its subject, or one of
+    /// the receivers has a maximum, or its connection is shut, has no room for the whole run, or has another receiver of it. Want of memory
+    /// leaves the state as it was.
     pub fn deliver_run(&mut self, jobs: &JobSlice<'_>) -> Result<usize, AllocError>
         ensures ok { IfOk result (λ count. DeliversRun jobs.now count self.old self.new) }
         ensures err { OnErr result (IsLeft self.old self.new) }
@@ -45,7 +42,7 @@ impl<T: SubTable> Shard<T> {
             return Ok(0);
         }
         let run = jobs_together(self.finished, &first, jobs);
-        if run.count < 2 {
+        if run.count == 0 {
             return Ok(0);
         }
         let (conns, openings) = (&mut self.conns, &mut self.openings);

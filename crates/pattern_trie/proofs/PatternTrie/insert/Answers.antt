@@ -1,9 +1,10 @@
-use Rattle.std.proofs.Common.{rules, ◌∷◌, [], ◌++◌, subst}
+use Rattle.std.proofs.Common.{rules, ◌∷◌, [], ◌++◌, ◌∙◌, ap, sym, subst}
 use Rattle.std.proofs.Math.Logic.{∥∥₁_map}
 use Rattle.pattern_trie.specs.Nodes.{Values, values_at, EntersEach, IsSame}
 use Rattle.pattern_trie.specs.Beginnings.{is_beginning, beginning_with_rest}
 use Rattle.pattern_trie.specs.Held.{Holds}
 use Rattle.pattern_trie.proofs.Fills.{pushed, same_filled, left_again}
+use Rattle.pattern_trie.proofs.Literals.{put_literally}
 use Rattle.pattern_trie.proofs.PatternTrie.insert.Goals as goal
 
 pub invariant_of-self : goal.invariant_of-self
@@ -13,6 +14,9 @@ invariant_of-self g c =
       filled =
           ∥∥₁_map c.args.self.now.filled
           (λ h. (h.0, same_filled h.0 c.args.self.now.nodes c.enter_all.new.nodes h.1 same));
+      literal = λ plain q faulty.
+          same.values q ∙ ap (λ n. values_at n q) (sym c.note_wild.ensures.nodes)
+          ∙ c.note_wild.new.self.literal plain q faulty;
     }
 
 pub invariant_of-self-then-is_err : goal.invariant_of-self-then-is_err
@@ -28,6 +32,10 @@ invariant_of-self-then-is_err g c =
             left_again h.0 c.bytes-text.result.now c.args.self.now.nodes c.enter_all.new.nodes c.push_value.new.nodes
                 c.leave_all.new.nodes h.1 entered same c.leave_all.ensures,
           ));
+      literal = λ plain q faulty.
+          c.leave_all.ensures.values q ∙ same.values q ∙ entered.values q
+          ∙ ap (λ n. values_at n q) (sym c.note_wild.ensures.nodes)
+          ∙ c.note_wild.new.self.literal plain q faulty;
     }
 
 pub invariant_of-self-else-is_err : goal.invariant_of-self-else-is_err
@@ -44,6 +52,11 @@ invariant_of-self-else-is_err g c =
             pushed g.V.PartialEq.eq text c.args.value h.0 c.args.self.now.nodes c.enter_all.new.nodes
                 c.push_value.new.nodes h.1 entered put,
           ));
+      literal = λ plain q faulty.
+          put_literally text q (values_at c.enter_all.new.nodes text ++ c.args.value ∷ []) c.enter_all.new.nodes
+          c.push_value.new.nodes (c.note_wild.ensures.plain plain) put faulty
+          (entered.values q ∙ ap (λ n. values_at n q) (sym c.note_wild.ensures.nodes)
+          ∙ c.note_wild.new.self.literal plain q faulty);
     }
 
 pub returns-clause-ok : goal.returns-clause-ok

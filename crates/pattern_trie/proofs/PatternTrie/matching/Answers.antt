@@ -1,11 +1,28 @@
 use Rattle.std.proofs.Common.{◌++◌, [], sym, ◌∙◌, ap, subst, List}
 use Rattle.std.specs.List.Sorted.{IsPermutation}
-use Rattle.std.proofs.lemmas.List.Sorted.{IsPermutation-append_right}
+use Rattle.std.proofs.lemmas.List.Sorted.{IsPermutation-append_right, IsPermutation-refl}
 use Rattle.subj.specs.Names.{tokens}
 use Rattle.pattern_trie.specs.Matchers.{matchers, values_under, matching_values}
+use Rattle.pattern_trie.specs.Nodes.{IsLiteral, values_at}
+use Rattle.pattern_trie.proofs.Literals.{literally}
 use Rattle.pattern_trie.proofs.Permutes.{permuted, on_ok}
 use Rattle.pattern_trie.proofs.Splitting.{some_tokens}
 use Rattle.pattern_trie.proofs.PatternTrie.matching.Goals as goal
+
+pub returns-then-not-self : goal.returns-then-not-self
+returns-then-not-self g c = λ held is.
+    let subject = c.args.subject.now in
+    let found = c.args.found.now.items in
+    let literal : IsLiteral c.args.self.now.nodes = c.args.self.now.literal c.if-not-self.true in
+    on_ok c.add_values.result _ _
+    (λ e.
+    subst (IsPermutation (found ++ matching_values subject held))
+    (sym (◌∙◌ {A = List g.row.V.Denot} e
+    (ap (λ vs. found ++ vs)
+    (ap (values_at c.args.self.now.nodes) c.bytes-text.ensures.same
+    ∙ literally subject held c.args.self.now.nodes is literal))))
+    (IsPermutation-refl (found ++ matching_values subject held)))
+    c.add_values.ensures
 
 pub returns : goal.returns
 returns g c = λ held is.

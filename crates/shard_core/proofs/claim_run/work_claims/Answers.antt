@@ -12,7 +12,8 @@ loop-place-init g c =
     let claims = c.args.claims.now in
     let conns = c.args.conns.now in
     let openings = c.args.openings.now in
-    record {
+    rw c.note_for_run.ensures
+    (record {
       fixed = refl;
       next = c.requires.first.first;
       finished = omega arith;
@@ -20,13 +21,13 @@ loop-place-init g c =
       settled = c.requires.settled;
       ready =
           open_first claims.first claims.name.now c.open-most.new.members.items conns.next openings.subs
-          c.open-most.result c.open-most.ensures.opened;
+          c.open-most.result (rw c.note_for_run.ensures at c.open-most.ensures.opened);
       so_far = λ s at follows.
           none_worked s claims.jobs claims.shard (g.C.Claims.part c.args.seat.now) c.requires.first.first follows conns
           openings at;
       keeps = keeps_all 0 conns.shown openings.subs;
       told = nothing_put conns.shown conns.shown c.args.dirty_conns.now refl;
-    }
+    })
 
 pub work_next-requires-clause-race : goal.work_next-requires-clause-race
 work_next-requires-clause-race g c =

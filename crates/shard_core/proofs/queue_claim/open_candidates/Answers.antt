@@ -13,7 +13,7 @@ returns-clause-all g c =
     let gotten = filter (gets claim.job.now.message.subject) all in
     let same =
     c.in_ok-subs.ensures.all
-    ∙ ap (λ t. filter (is_in_group_of claim.name.now) (filter (gets t) all)) c.subject.ensures in
+    ∙ ap (λ t. filter (is_in_group_of claim.name.now) (filter (gets t) all)) (c.lent.ensures ∙ c.subject.ensures) in
     c.keep_candidates.ensures
     ∙ same_members claim.shard c.args.conns.now.next claim.job.now claim.name.now (lent_subs c.in_ok-subs.subs.items)
     gotten same

@@ -13,8 +13,8 @@ returns c same turn =
       plain = short.plain;
       short = short.short;
       subject =
-          sym ((bytes_eq-Decides c.subject.result.now c.args.publication.now.subject.now).0 (sym c.eq.ensures ∙ same))
-          ∙ c.subject.ensures;
+          sym ((bytes_eq-Decides c.bytes.result.now c.args.publication.now.subject.now).0 (sym c.eq.ensures ∙ same))
+          ∙ c.bytes.ensures.same ∙ c.subject.ensures;
       publisher = sym from.0;
       echo = sym from.1;
     }

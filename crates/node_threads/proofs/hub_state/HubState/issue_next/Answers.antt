@@ -27,15 +27,15 @@ unreachable-requires g c =
     has_turn s.side.hub.issued (omega arith)
     (c.in_default-next.ensures ∙ ap next_turn (c.issued.ensures ∙ ap (λ (h : State). h.issued) c.hub.ensures.state))
 
-pub add_next-requires-clause-turn : goal.add_next-requires-clause-turn
-add_next-requires-clause-turn g c =
+pub add_lent-requires-clause-turn : goal.add_lent-requires-clause-turn
+add_lent-requires-clause-turn g c =
     let s = c.self.inside in
     let turn : c.in-Some-next.turn ≡ s.side.hub.issued + 1 = next_is s.side.hub.issued c.in-Some-next.turn
     (c.in-Some-next.ensures ∙ ap next_turn (c.issued.ensures ∙ ap (λ (h : State). h.issued) c.hub.ensures.state)) in
     turn ∙ ap (λ n. n + 1) (sym c.self.invariant.0.count)
 
-pub add_next-requires-clause-last : goal.add_next-requires-clause-last
-add_next-requires-clause-last g c =
+pub add_lent-requires-clause-last : goal.add_lent-requires-clause-last
+add_lent-requires-clause-last g c goes_on =
     let s = c.self.inside in
     let run = c.args.run.now in
     let conn = c.args.conn in
@@ -48,7 +48,7 @@ add_next-requires-clause-last g c =
     (subst (λ echo. IsLast (Some conn) c.in-Some.ahead.publication.message.subject echo queues s.outlet) (sym echo_is)
     (subst (λ subject. IsLast (Some conn) subject run.echo queues s.outlet) (sym on)
     (subst (λ (o : AtHub). IsLast (Some conn) run.subject run.echo queues o.issued) (sym c.self.view_is)
-    c.requires.last)))
+    (c.requires.last goes_on))))
 
 pub pass-requires : goal.pass-requires
 pass-requires g c =
@@ -101,10 +101,10 @@ invariant_of-self-2 g c =
     let echo_is = c.echo.ensures ∙ ap (λ (r : LentState). r.echo) c.peek.ensures.same in
     let origin_is : origin ≡ record { id = next_id s.side.server s.side.hub; publisher = Some conn; echo = run.echo } =
     (λ k. record { id = id_is k; publisher = Some conn; echo = echo_is k }) in
-    let jobs_are = c.in-Ok-add_next.ensures.ok
+    let jobs_are = c.in-Ok-add_lent.ensures.ok
     ∙ (λ k. s.outlet ++ job_of origin c.in-Some-next.turn said.message (c.in-Ok.ensures k) ∷ []) in
     let one = one_issued g.N.NodeName.race.shards conn w said queues run c.peek.new.self c.pass.new.self origin
-    c.in-Some-next.turn c.commit_local.new.self c.issue_shown.new.seat.part c.add_next.new.self c.self.invariant.0 owes
+    c.in-Some-next.turn c.commit_local.new.self c.issue_shown.new.seat.part c.add_lent.new.self c.self.invariant.0 owes
     free c.peek.ensures.same c.pass.ensures
     (c.in-Some-next.ensures ∙ ap next_turn (c.issued.ensures ∙ ap (λ (h : State). h.issued) c.hub.ensures.state))
     origin_is jobs_are c.commit_local.ensures c.issue_shown.ensures.part in
@@ -127,10 +127,10 @@ returns g c =
     let echo_is = c.echo.ensures ∙ ap (λ (r : LentState). r.echo) c.peek.ensures.same in
     let origin_is : origin ≡ record { id = next_id s.side.server s.side.hub; publisher = Some conn; echo = run.echo } =
     (λ k. record { id = id_is k; publisher = Some conn; echo = echo_is k }) in
-    let jobs_are = c.in-Ok-add_next.ensures.ok
+    let jobs_are = c.in-Ok-add_lent.ensures.ok
     ∙ (λ k. s.outlet ++ job_of origin c.in-Some-next.turn said.message (c.in-Ok.ensures k) ∷ []) in
     let one = one_issued g.N.NodeName.race.shards conn w said queues run c.peek.new.self c.pass.new.self origin
-    c.in-Some-next.turn c.commit_local.new.self c.issue_shown.new.seat.part c.add_next.new.self c.self.invariant.0 owes
+    c.in-Some-next.turn c.commit_local.new.self c.issue_shown.new.seat.part c.add_lent.new.self c.self.invariant.0 owes
     free c.peek.ensures.same c.pass.ensures
     (c.in-Some-next.ensures ∙ ap next_turn (c.issued.ensures ∙ ap (λ (h : State). h.issued) c.hub.ensures.state))
     origin_is jobs_are c.commit_local.ensures c.issue_shown.ensures.part in
@@ -138,9 +138,9 @@ returns g c =
       issues =
           subst (λ (o : AtHub).
           IssuesRun g.N.NodeName.race.shards conn 1 run c.pass.new.self o
-          (hub_at c.commit_local.new.self c.issue_shown.new.seat.part s.finished c.add_next.new.self))
+          (hub_at c.commit_local.new.self c.issue_shown.new.seat.part s.finished c.add_lent.new.self))
           c.self.view_is one.issues;
-      last = one.last;
+      last = λ so. one.last;
       same = (
         ap (λ (o : AtHub). o.finished) c.self.view_is,
         one.server ∙ ap (λ (o : AtHub). o.side.server) c.self.view_is,

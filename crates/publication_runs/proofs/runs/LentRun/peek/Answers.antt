@@ -16,7 +16,8 @@ state_of run = record {
 pub returns-in_err-behind_line-clause-ended : goal.returns-in_err-behind_line-clause-ended
 returns-in_err-behind_line-clause-ended c =
     let s = state_of c.self.inside in
-    rw (c.from_residual.ensures, ← c.self.view_is) (no_line_there s.subject s.run c.in_err-behind_line.ensures.none)
+    rw (c.from_residual.ensures, ← c.self.view_is)
+    (no_line_there s.subject s.run (rw c.of.ensures at c.in_err-behind_line.ensures.none))
 
 pub returns-in_err-payload-clause-ended : goal.returns-in_err-payload-clause-ended
 returns-in_err-payload-clause-ended c =
@@ -34,6 +35,7 @@ returns-clause-found c =
     let more : 0 < s.run.left = omega arith in
     rw (← c.self.view_is)
     (found_ahead s line.text.now (fields_in line.fields) line.size c.in_ok-behind_line.behind_line.now
-    c.in_ok-payload.payload.now c.in_ok-payload.behind.now c.new.result line.plain line.short
-    (rw c.in-Some.is at c.in_ok-behind_line.ensures.on) (rw c.in-Some.is at c.in_ok-behind_line.ensures.line)
-    c.in_ok-payload.ensures more c.new.ensures)
+    c.in_ok-payload.payload.now c.in_ok-payload.behind.now c.new.result line.plain
+    (rw (c.in-Some.is, c.of.ensures) at c.in_ok-behind_line.ensures.on)
+    (rw c.in-Some.is at c.in_ok-behind_line.ensures.line) c.in_ok-payload.ensures more
+    (rw c.subject.ensures at c.new.ensures))

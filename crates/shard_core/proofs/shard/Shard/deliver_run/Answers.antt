@@ -36,8 +36,8 @@ invariant_of-self-3 g c =
 pub returns-clause-ok : goal.returns-clause-ok
 returns-clause-ok g c =
     let together = c.jobs_together-run.ensures in
-    let many = c.if-run-lt2.false in
-    let some : 0 < c.jobs_together-run.result.count = omega (arith, many) in
+    let more = c.if-run-eq0.false in
+    let some : 0 < c.jobs_together-run.result.count = omega (arith, more) in
     delivers_run _ _ c.args.jobs.now c.first-together.result c.jobs_together-run.result.count c.get-first.result
     c.jobs_together-run.result.last c.put_run.new.conns c.put_run.new.openings c.drop_candidate.new.chosen
     c.args.self.now c.self.view_is c.first-together.ensures together.few some

@@ -14,7 +14,7 @@ returns g c =
     ∙ (λ k.
     list_all (λ client.
     is_room (form_length lengths client.headers) (room_left client)
-    (matching_of client.number (c.subject.ensures k) (c.table-table.ensures.subs k)))
+    (matching_of client.number ((c.lent.ensures ∙ c.subject.ensures) k) (c.table-table.ensures.subs k)))
     c.self.inside.conns.shown)
     ∙ ap (λ (h : Held).
     list_all (λ client.
