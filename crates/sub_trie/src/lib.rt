@@ -3,7 +3,7 @@
 //! ```text
 //! let mut table = TrieTable::new(alloc)?;
 //! table.add(sub)?;
-//! table.remember(&subject);
+//! table.remember(&subject.lent());
 //! let found = table.matching(&subject.lent())?;
 //! ```
 //!

@@ -26,7 +26,9 @@ plan_by-requires-clause-servers c =
     let are : c.deref-2.result.now ≡ map (choice_of server state p) names = c.deref-2.ensures.value
     ∙ c.in_ok-servers.ensures.same ∙ (λ k.
     map (λ name.
-    pick_of (weights_from server (c.counts.ensures k) ((c.lent-subject.ensures ∙ c.subject.ensures) k) name 0 (c.deref.ensures.value k))
+    pick_of
+    (weights_from server (c.counts.ensures k) ((c.lent-subject.ensures ∙ c.subject.ensures) k) name 0
+    (c.deref.ensures.value k))
     c.args.word)
     names) in
     subst (λ (hub : Hub). IsServed hub.server hub.state p names c.deref-2.result.now) c.self.view_is
