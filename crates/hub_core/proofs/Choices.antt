@@ -6,3 +6,4 @@ pub mod Wanted
 pub mod Alone
 pub mod Local
 pub mod InMind
+pub mod Audiences

@@ -1,5 +1,5 @@
 -- What a choice finds in code, and what a publish owes by it.
-use Rattle.std.specs.Prelude.{◌≡◌, ℕ, suc, ◌<◌, ◌≤◌, Bool, true, false, nat_le, ◌&&◌, ◌||◌, List, [], ◌∷◌, ◌++◌, length, Option, Some, None, Result, Ok, Err, if◌then◌else◌}
+use Rattle.std.specs.Prelude.{◌≡◌, ℕ, suc, ◌<◌, ◌≤◌, Bool, true, false, nat_le, ◌&&◌, ◌||◌, List, [], ◌∷◌, ◌++◌, length, Option, Some, None, Result, Ok, Err, if◌then◌else◌, slice_get}
 use Rattle.subj.specs.declared.limits.TheConstants.{MAX_COUNTER, MAX_QUEUE_NAMES}
 use Rattle.std.specs.Option.{option_or}
 use Rattle.subj.specs.declared.messages.Pub.{Pub}
@@ -12,7 +12,7 @@ use Rattle.route_values.specs.Frames.{Frame}
 use Rattle.hub_core.specs.declared.faults.HubFault.{HubFault}
 use Rattle.hub_core.specs.declared.faults.HubFault.TheVariants.{Spent}
 use Rattle.hub_core.specs.State.{State, Peer}
-use Rattle.interest.specs.Matches.{has_queue_match}
+use Rattle.interest.specs.Matches.{has_plain_match, has_queue_match}
 use Rattle.hub_core.specs.Choice.{is_eligible}
 use Rattle.hub_core.specs.Publishing.{Publication, busy_fault, is_owed, own_job, frames_of}
 
@@ -35,6 +35,12 @@ chosen_for server_name (name ∷ names) [] = []
 chosen_for server_name (name ∷ names) (server ∷ servers) =
     if is_named server_name server then name ∷ chosen_for server_name names servers
     else chosen_for server_name names servers
+
+-- of the peer at place q it is known whether a plain key of it matches the subject, if of any
+abbrev pub KnowsPlain : Option (List Bool) → List ℕ → ℕ → Peer → Type 0
+KnowsPlain None subject q peer = Unit {0}
+KnowsPlain (Some plain) subject q peer =
+    slice_get plain q ≡ Some (has_plain_match subject peer.heard.keys)
 
 -- ---- the frames of a message, by what queue names each server serves
 

@@ -31,6 +31,8 @@ pub mod Examples
 pub mod Chosen
 -- what is kept in mind of a server's own interest
 pub mod InMind
+-- who wants a subject at all servers, and what of it may be kept in mind
+pub mod Audiences
 -- a publication that owes the server's own shards a job and nothing else
 pub mod Local
 -- who serves the queue names of a publication, as it is found in code

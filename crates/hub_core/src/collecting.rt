@@ -113,6 +113,7 @@ impl Hub {
               (counts_told self.old.state.counts deltas.now) count frames.items;
         } }
     {
+        self.memo = None;
         self.counts.commit(deltas, recount);
         self.changed += count as u64;
         tell_peers(&self.server, &mut self.peers, count, frames);

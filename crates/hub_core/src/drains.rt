@@ -70,6 +70,7 @@ impl Hub {
             (Drained (drain_frames self.old.server self.old.state) result.items) self.new }
     {
         let DrainPlan { frames, cut } = plan;
+        self.memo = None;
         self.changed += 1;
         self.draining = true;
         tell_peers(&self.server, &mut self.peers, 1, frames);

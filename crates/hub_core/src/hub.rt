@@ -1,43 +1,41 @@
 //! The hub, with all that it is called for.
 
-ghost use Rattle.std.specs.Prelude.{◌≡◌, ◌<◌, nat_le, not, if◌then◌else◌, ⊤, Some, None, true, false, take, length, slice_get, IfOk, IfSome, OnOk, OnErr, ℕ, ◌+◌, ◌≤◌, position, [], nat_lt, unwrap_or};
-ghost use Rattle.std.specs.Option.{option_or, option_copied};
+ghost use Rattle.std.specs.Prelude.{◌≡◌, ◌<◌, nat_le, not, if◌then◌else◌, ⊤, Some, None, true, false, take, length, slice_get, IfOk, OnOk, OnErr, ℕ, ◌+◌, ◌≤◌, position, []};
+ghost use Rattle.std.specs.Option.{option_or};
 ghost use Rattle.subj.specs.Answers.{IsAnswered, IsDecided};
-ghost use Rattle.subj.specs.declared.limits.TheConstants.{MAX_COUNTER, MAX_SHARDS, MAX_QUEUE_NAMES};
+ghost use Rattle.subj.specs.declared.limits.TheConstants.{MAX_COUNTER, MAX_SHARDS};
 ghost use Rattle.subj.specs.Servers.{is_peer};
 ghost use Rattle.hub_core.specs.State.{seen_of as seen};
-ghost use Rattle.hub_core.specs.Events.{Receive, Up, Cut, TakeFrom, IsUp, WasCut, Taken, Publish, Issued};
+ghost use Rattle.hub_core.specs.Events.{Receive, Up, Cut, TakeFrom, IsUp, WasCut, Taken};
 ghost use Rattle.hub_core.specs.Steps.{IsMeeting};
 ghost use Rattle.hub_core.specs.Hubs.{hub_at_start, refusal, DoesStep};
 ghost use Rattle.hub_core.specs.declared.faults.HubFault.TheVariants.{Spent, TooManyQueues};
 ghost use Rattle.hub_core.specs.Local.{HasTurnsFor};
-ghost use Rattle.hub_core.specs.Publishing.{busy_fault, next_id as id_of_next, publish_refusal, frames_of};
+ghost use Rattle.hub_core.specs.Publishing.{busy_fault, next_id as id_of_next, publish_refusal};
 ghost use Rattle.hub_core.specs.Receiving.{receive_refusal, origin_fault as refused_of_origin, after_receive, has_message};
 ghost use Rattle.hub_core.specs.Calls.{job_of, IsTaken, answer_of, IsPlanned, after_frames};
 ghost use Rattle.hub_core.specs.Peers.{snapshot_to, told_interest};
 ghost use Rattle.std.specs.List.{count_by};
-ghost use Rattle.hub_core.specs.Chosen.{publication_by, IsPlanOf, turn_refusal};
+ghost use Rattle.hub_core.specs.Chosen.{publication_by, turn_refusal};
 ghost use Rattle.hub_core.specs.Telling.{collect_refusal, collect_frames};
 ghost use Rattle.claim_race.specs.Race.{busy_of, is_behind};
-ghost use Rattle.hub_core.specs.Choice.{queue_names as wanted_names};
-ghost use Rattle.hub_core.specs.Serving.{IsServed, ServesAlone};
 
 use crate::answers::Received;
+use crate::audience::{Asked, AudienceMemo, kept_unless};
 use crate::faults::HubFault;
 use crate::own_interest::OwnInterest;
 use crate::peers::{
     Peer, address_fault, frame_to, is_message, peer_place, put_all, snapshot_of, unknown_peers,
 };
-use crate::publishing::{
-    Outgoing, PublishPlan, frames_for, gather_names, is_alone, is_name_wanted, own_job, servers_for,
-};
+use crate::publishing::gather_names;
 use interest::FoundNames;
 use route_values::{Body, Numbered, SnapshotKeys};
 use std::alloc::{AllocError, Global};
+use std::cell::Cell;
 use std::marker::Model;
 use subj::{
-    Busy, ConnId, Delta, Failure, Finished, Incarnation, Job, LentSubject, MAX_COUNTER, NodeId,
-    Pub, PubId, QueueNames, ServerIdentity, Subject, Turn, WINDOW,
+    Busy, Delta, Failure, Finished, Incarnation, Job, MAX_COUNTER, Pub, PubId, ServerIdentity,
+    Turn, WINDOW,
 };
 
 /// The hub of a server. (Profile.)
@@ -57,6 +55,11 @@ pub struct Hub {
     pub(crate) draining: bool,
     pub(crate) counts: OwnInterest,
     pub(crate) peers: Vec<Peer>,
+    /// Who wants the last subject that was published on twice in a row. Whatever changes what a server wants forgets it.
+    pub(crate) memo: Option<AudienceMemo>,
+    /// The last subject that was published on and is not in mind. It is written where nothing else may change, and decides
+    /// nothing but what [`Hub::learn`] keeps in mind.
+    pub(crate) asked: Cell<Option<Asked>>,
 }
 
 impl Model for Hub {
@@ -65,6 +68,7 @@ impl Model for Hub {
     ghost Value = { Hub };
 
     ghost use Rattle.hub_core.specs.Hubs.{hub_of_parts, IsKept};
+    ghost use Rattle.hub_core.specs.Audiences.{IsInMind};
 
     ghost view = { λ hub.
         hub_of_parts hub.server hub.issued hub.published hub.changed hub.draining hub.counts
@@ -72,7 +76,8 @@ impl Model for Hub {
 
     ghost invariant = { λ hub.
         IsKept (hub_of_parts hub.server hub.issued hub.published hub.changed hub.draining hub.counts
-        hub.peers.items) };
+        hub.peers.items)
+        × IsInMind hub.server hub.counts hub.peers.items hub.memo };
 }
 
 impl Hub {
@@ -92,6 +97,8 @@ impl Hub {
             draining: false,
             counts,
             peers,
+            memo: None,
+            asked: Cell::new(None),
         })
     }
 
@@ -145,6 +152,7 @@ impl Hub {
         ensures { DoesStep self.old (Up place inc) (IsUp snapshot) self.new }
     {
         let alloc = self.alloc;
+        self.memo = None;
         let peer = &mut self.peers[place];
         peer.know(alloc, inc);
         peer.meet(snapshot);
@@ -169,6 +177,7 @@ impl Hub {
         requires { is_peer self.old.server place ≡ true }
         ensures { DoesStep self.old (Cut place) WasCut self.new }
     {
+        self.memo = None;
         let peer = &mut self.peers[place];
         peer.cut();
     }
@@ -289,6 +298,8 @@ impl Hub {
         let place = peer_place(&self.server, frame.from()).unwrap();
         let alloc = self.alloc;
         self.issued = self.issued.next().unwrap();
+        let is_new_life = self.peers[place].is_new_life(frame.inc());
+        self.memo = kept_unless(is_new_life, self.memo.take());
         let peer = &mut self.peers[place];
         peer.take_message(alloc, frame);
     }
@@ -305,6 +316,7 @@ impl Hub {
     {
         let place = peer_place(&self.server, frame.from()).unwrap();
         let alloc = self.alloc;
+        self.memo = None;
         let peer = &mut self.peers[place];
         peer.apply_update(alloc, frame)
     }
@@ -336,16 +348,41 @@ impl Hub {
 
     /// Issues a publication: it takes the next number and the next turn, and the frames that are owed wait
     /// for their peers. Required: the frames are those of a publication that is not refused. Never wants for
-    /// memory; where there is some, the queue names of a subject that is published again are kept in mind.
+    /// memory; where there is some, those who want a subject that is published on again are kept in mind.
     pub fn commit_publish(&mut self, frames: Vec<Numbered>)
+        requires { IsPlanned self.old.server self.old.state frames.items }
+        ensures { self.new
+            ≡ record self.old { state = after_frames self.old.server self.old.state frames.items } }
+    {
+        self.learn();
+        self.commit_frames(frames);
+    }
+
+    /// The same, where nothing is learnt of who wants it. Takes no memory.
+    fn commit_frames(&mut self, frames: Vec<Numbered>)
         requires { IsPlanned self.old.server self.old.state frames.items }
         ensures { self.new
             ≡ record self.old { state = after_frames self.old.server self.old.state frames.items } }
     {
         self.issued = self.issued.next().unwrap();
         self.published += 1;
-        self.counts.learn();
         put_all(&self.server, &mut self.peers, frames);
+    }
+
+    /// Keeps in mind who wants the last subject that was published on, where that was so twice in a row. Want of memory keeps
+    /// nobody in mind.
+    fn learn(&mut self)
+        ensures { self.new ≡ self.old }
+    {
+        let Some(asked) = self.asked.replace(None) else {
+            return;
+        };
+        if !asked.is_again {
+            self.asked.set(Some(asked));
+            return;
+        }
+        let (alloc, counts) = (self.alloc, self.counts.counts());
+        self.memo = AudienceMemo::find(alloc, &self.server, counts, &self.peers, asked.subject);
     }
 
     /// The same of a local publication, which owes a job to the server's own shards and nothing else. Required: it is not refused. Nothing
@@ -517,274 +554,5 @@ impl Hub {
         let numbers = (MAX_COUNTER - self.published).min(MAX_COUNTER - self.issued.get());
         let shards = self.server.shards() as usize;
         turns_among(self.issued, &finished.as_slice()[..shards], numbers)
-    }
-
-    /// What a publication owes that has this turn and these queue names, if any, each of which the server at its place
-    /// serves.
-    #[inline(always)]
-    fn plan_by(
-        &self,
-        turn: Turn,
-        conn: ConnId,
-        publication: &Pub,
-        word: u64,
-        names: Option<&FoundNames<'_>>,
-        servers: &[Option<NodeId>],
-    ) -> Result<PublishPlan, Failure<HubFault>>
-        requires turn { turn ≡ self.now.state.issued + 1 }
-        requires number { self.now.state.published < MAX_COUNTER }
-        requires names { unwrap_or (option_copied names) []
-            ≡ wanted_names self.now.server self.now.state publication.now.message.subject }
-        requires servers { IsServed self.now.server self.now.state
-            (publication_by conn publication.now word) (unwrap_or (option_copied names) [])
-            servers.now }
-        ensures { IsAnswered None
-            (λ plan.
-            IsPlanOf self.now.server self.now.state (publication_by conn publication.now word)
-            plan.job plan.frames.items)
-            ⊤ result }
-    {
-        let _word = word;
-        let out = Outgoing {
-            alloc: self.alloc,
-            server: &self.server,
-            number: self.published + 1,
-            message: &publication.message,
-            names,
-            servers,
-        };
-        let frames = frames_for(&out, &self.peers)?;
-        let job = own_job(&out, turn, conn, publication.echo)?;
-        Ok(PublishPlan { job, frames })
-    }
-
-    /// What a publication owes that has this turn and these queue names, with a look at who serves each of them.
-    fn plan_split(
-        &self,
-        turn: Turn,
-        conn: ConnId,
-        publication: &Pub,
-        word: u64,
-        names: &FoundNames<'_>,
-    ) -> Result<PublishPlan, Failure<HubFault>>
-        requires turn { turn ≡ self.now.state.issued + 1 }
-        requires number { self.now.state.published < MAX_COUNTER }
-        requires names { names.now
-            ≡ wanted_names self.now.server self.now.state publication.now.message.subject }
-        ensures { IsAnswered None
-            (λ plan.
-            IsPlanOf self.now.server self.now.state (publication_by conn publication.now word)
-            plan.job plan.frames.items)
-            ⊤ result }
-    {
-        let subject = publication.message.subject().lent();
-        let servers = servers_for(
-            self.alloc,
-            &self.server,
-            self.counts.counts(),
-            &self.peers,
-            &subject,
-            word,
-            names,
-        )?;
-        self.plan_by(turn, conn, publication, word, Some(names), &servers)
-    }
-
-    /// What a publication owes that has this turn. Refused: 61 where more queue names want it than a publication may
-    /// have.
-    #[inline(never)]
-    fn plan_named(
-        &self,
-        turn: Turn,
-        conn: ConnId,
-        publication: &Pub,
-        word: u64,
-    ) -> Result<PublishPlan, Failure<HubFault>>
-        requires turn { turn ≡ self.now.state.issued + 1 }
-        requires number { self.now.state.published < MAX_COUNTER }
-        ensures { IsAnswered
-            (if nat_lt MAX_QUEUE_NAMES
-            (length (wanted_names self.now.server self.now.state publication.now.message.subject))
-            then Some TooManyQueues
-            else None)
-            (λ plan.
-            IsPlanOf self.now.server self.now.state (publication_by conn publication.now word)
-            plan.job plan.frames.items)
-            ⊤ result }
-    {
-        let subject = publication.message.subject().lent();
-        let mut names = FoundNames::new();
-        match gather_names(
-            &self.server,
-            self.counts.counts(),
-            &self.peers,
-            &subject,
-            &mut names,
-        ) {
-            Ok(()) => self.plan_split(turn, conn, publication, word, &names),
-            Err(_) => Err(Failure::Refused(HubFault::TooManyQueues)),
-        }
-    }
-
-    /// The same of one that no queue name wants: no room is made for names and for their servers.
-    #[inline(always)]
-    fn plan_unnamed(
-        &self,
-        turn: Turn,
-        conn: ConnId,
-        publication: &Pub,
-        word: u64,
-    ) -> Result<PublishPlan, Failure<HubFault>>
-        requires turn { turn ≡ self.now.state.issued + 1 }
-        requires number { self.now.state.published < MAX_COUNTER }
-        requires names { wanted_names self.now.server self.now.state publication.now.message.subject
-            ≡ [] }
-        ensures { IsAnswered None
-            (λ plan.
-            IsPlanOf self.now.server self.now.state (publication_by conn publication.now word)
-            plan.job plan.frames.items)
-            ⊤ result }
-    {
-        self.plan_by(turn, conn, publication, word, None, &[])
-    }
-
-    /// The queue names that want the subject, where they are in mind and no peer is eligible.
-    fn names_alone(&self, subject: &Subject) -> Option<&QueueNames>
-        ensures { IfSome result (λ names.
-            ServesAlone self.now.server self.now.state subject.now names.now) }
-    {
-        if !self.counts.is_queued() || !is_alone(&self.server, &self.peers) {
-            return None;
-        }
-        self.counts.names_in_mind(subject)
-    }
-
-    /// What a publication owes that has this turn, where no peer is eligible: the server serves all of the queue names
-    /// itself.
-    #[inline(always)]
-    fn plan_alone(
-        &self,
-        turn: Turn,
-        conn: ConnId,
-        publication: &Pub,
-        names: &QueueNames,
-    ) -> Result<PublishPlan, Failure<HubFault>>
-        requires turn { turn ≡ self.now.state.issued + 1 }
-        requires number { self.now.state.published < MAX_COUNTER }
-        requires names { ServesAlone self.now.server self.now.state publication.now.message.subject
-            names.now }
-        ensures { (word : ℕ)
-            → IsAnswered None
-            (λ plan.
-            IsPlanOf self.now.server self.now.state (publication_by conn publication.now word)
-            plan.job plan.frames.items)
-            ⊤ result }
-    {
-        let queues = names.try_clone()?;
-        let message = publication.message.try_clone()?;
-        let job = Job {
-            turn,
-            id: self.next_id(),
-            message,
-            publisher: Some(conn),
-            echo: publication.echo,
-            queues,
-        };
-        Ok(PublishPlan {
-            job,
-            frames: Vec::new(self.alloc),
-        })
-    }
-
-    /// Whether some queue name wants the subject.
-    pub(crate) fn is_named(&self, subject: &LentSubject<'_>) -> bool
-        ensures { result ≡ false → wanted_names self.now.server self.now.state subject.now ≡ [] }
-    {
-        is_name_wanted(&self.server, &self.counts, &self.peers, subject)
-    }
-
-    /// What a publication owes that has this turn: from the names in mind, or by a look at who wants it. Refused as
-    /// [`Hub::plan_named`] is.
-    #[inline(always)]
-    fn plan_at(
-        &self,
-        turn: Turn,
-        conn: ConnId,
-        publication: &Pub,
-        word: u64,
-    ) -> Result<PublishPlan, Failure<HubFault>>
-        requires turn { turn ≡ self.now.state.issued + 1 }
-        requires number { self.now.state.published < MAX_COUNTER }
-        ensures { IsAnswered
-            (if nat_lt MAX_QUEUE_NAMES
-            (length (wanted_names self.now.server self.now.state publication.now.message.subject))
-            then Some TooManyQueues
-            else None)
-            (λ plan.
-            IsPlanOf self.now.server self.now.state (publication_by conn publication.now word)
-            plan.job plan.frames.items)
-            ⊤ result }
-    {
-        let subject = publication.message.subject();
-        if let Some(names) = self.names_alone(subject) {
-            return self.plan_alone(turn, conn, publication, names);
-        }
-        if self.is_named(&subject.lent()) {
-            // bound first: the plan of most publications is then built where it goes, and not moved there
-            let plan = self.plan_named(turn, conn, publication, word);
-            return plan;
-        }
-        self.plan_unnamed(turn, conn, publication, word)
-    }
-
-    /// What a publish of the connection owes, where the word decides who serves each queue name. It changes
-    /// nothing, and takes memory only for what somebody wants; copies of the message share its bytes.
-    ///
-    /// Refused: 60 where a shard is a window behind, of the last turns that the shards finished; 62 where
-    /// the last number of a publication or the last turn was used; 61 where more queue names want it than a
-    /// publication may have. (Profile.)
-    #[inline(always)]
-    pub fn plan_publish(
-        &self,
-        conn: ConnId,
-        publication: &Pub,
-        word: u64,
-        finished: &Finished,
-    ) -> Result<PublishPlan, Failure<HubFault>>
-        ensures { IsAnswered
-            (publish_refusal self.now.server self.now.state
-            (publication_by conn publication.now word) finished.now)
-            (λ plan.
-            IsPlanOf self.now.server self.now.state (publication_by conn publication.now word)
-            plan.job plan.frames.items)
-            ⊤ result }
-    {
-        let turn = match self.next_turn(finished) {
-            Ok(turn) => turn,
-            Err(fault) => return Err(Failure::Refused(fault)),
-        };
-        self.plan_at(turn, conn, publication, word)
-    }
-
-    /// [`Hub::plan_publish`] and [`Hub::commit_publish`] together: the publication takes the next number
-    /// and the next turn, its frames wait for their peers, and the job of the server's own shards is given.
-    /// Any `Err` leaves all as it was.
-    pub fn publish(
-        &mut self,
-        conn: ConnId,
-        publication: &Pub,
-        word: u64,
-        finished: &Finished,
-    ) -> Result<Job, Failure<HubFault>>
-        ensures { let p = publication_by conn publication.now word in
-            IsAnswered (publish_refusal self.old.server self.old.state p finished.now)
-            (λ job.
-            DoesStep self.old (Publish p finished.now)
-            (Issued job (frames_of self.old.server self.old.state p)) self.new)
-            (self.new ≡ self.old) result }
-    {
-        let PublishPlan { job, frames } = self.plan_publish(conn, publication, word, finished)?;
-        self.commit_publish(frames);
-        Ok(job)
     }
 }

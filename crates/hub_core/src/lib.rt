@@ -8,14 +8,15 @@
 //! let frames = hub.take_route(1, usize::MAX)?;
 //! ```
 //!
-//! In reading order: `hub` has the state, and says why a call is refused (`faults`); `publishing` is what a publish owes, with the choice of who
-//! serves each queue name, and `local` says whether that is a job and nothing else; `collecting` counts what shards tell, by `collects`, which is
-//! what peers are told of it, and `drains` how a server tells that it has none any more. `peers` keeps what is known of each: what a frame of a peer
-//! does, the snapshot for one that comes up, and the frames that wait. `own_interest` is the server's own, with the queue names in mind that want a
-//! hot subject. `answers` is what the calls give. `laws` and `examples` are what holds of all this.
+//! In reading order: `hub` has the state, and says why a call is refused (`faults`); `planning` is what a publish owes, by who wants it (`audience`,
+//! which is kept in mind of a hot subject) and by the choice of who serves each queue name (`publishing`), and `local` says whether that is a job and
+//! nothing else; `collecting` counts what shards tell, by `collects`, which is what peers are told of it, and `drains` how a server tells that it has
+//! none any more. `peers` keeps what is known of each: what a frame of a peer does, the snapshot for one that comes up, and the frames that wait.
+//! `own_interest` is the server's own. `answers` is what the calls give. `laws` and `examples` are what holds of all this.
 #![tactic(auto)]
 
 mod answers;
+mod audience;
 mod collecting;
 mod collects;
 mod drains;
@@ -26,6 +27,7 @@ mod laws;
 mod local;
 mod own_interest;
 mod peers;
+mod planning;
 mod publishing;
 mod settled;
 

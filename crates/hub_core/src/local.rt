@@ -2,12 +2,14 @@
 
 ghost use Rattle.std.specs.Prelude.{◌≡◌, ◌&&◌, true, [], IfSome};
 ghost use Rattle.interest.specs.Matches.{has_plain_match};
+ghost use Rattle.hub_core.specs.Audiences.{IsAudience};
 ghost use Rattle.hub_core.specs.Choice.{is_eligible as eligible};
 ghost use Rattle.hub_core.specs.Local.{OwesLocalJob, wants_plain_from};
 
+use crate::audience::Audience;
 use crate::hub::Hub;
 use crate::peers::Peer;
-use crate::publishing::{is_alone, is_eligible};
+use crate::publishing::is_eligible;
 use subj::{LentSubject, QueueNames, ServerIdentity};
 
 /// Whether the peer is eligible, and has a plain key that matches the subject.
@@ -37,17 +39,20 @@ fn is_wanted_elsewhere(server: &ServerIdentity, peers: &[Peer], subject: &LentSu
 }
 
 impl Hub {
-    /// The queue names that want the subject, where they are in mind and no peer is eligible: the server serves them all itself. It is not
-    /// noted that they were asked for.
-    #[tactic(auto, using(crate::proofs::Choices::Local::local_alone))]
-    fn names_known(&self, subject: &LentSubject<'_>) -> Option<&QueueNames>
+    /// The queue names of those who want the subject, where no peer is eligible: the server serves them all itself.
+    fn names_served<'a>(
+        &self,
+        subject: &LentSubject<'_>,
+        audience: &'a Audience,
+    ) -> Option<&'a QueueNames>
+        requires { IsAudience self.now.server self.now.state.counts self.now.state.peers subject.now
+            audience.now }
         ensures { IfSome result (λ names.
             OwesLocalJob self.now.server self.now.state subject.now names.now) }
     {
-        if !self.counts.is_queued() || !is_alone(&self.server, &self.peers) {
-            return None;
-        }
-        self.counts.names_known(subject)
+        let _me = self.server.me();
+        let names = self.names_alone(subject, audience)?;
+        Some(names)
     }
 
     /// Whether no queue name wants the subject, and no peer is owed a frame of a publication on it.
@@ -64,8 +69,13 @@ impl Hub {
         ensures { IfSome result (λ queues.
             OwesLocalJob self.now.server self.now.state subject.now queues) }
     {
-        if let Some(names) = self.names_known(subject) {
-            return names.try_clone().ok();
+        if let Some(audience) = self.audience_of(subject) {
+            if let Some(names) = self.names_served(subject, audience) {
+                return names.try_clone().ok();
+            }
+            if !audience.names.as_slice().is_empty() {
+                return None;
+            }
         }
         if self.is_unwanted(subject) {
             return Some(QueueNames::new());

@@ -3,7 +3,7 @@
 ghost use Rattle.std.specs.Prelude.{◌≡◌, ◌≤◌, ◌<◌, ◌+◌, ◌++◌, ◌∷◌, [], Some, true, false, take, drop, length, replicate, vec_len, vec_capacity, IfOk, OnErr, slice_get, None, if◌then◌else◌};
 ghost use Rattle.std.specs.VecDeque.{deque_capacity};
 ghost use Rattle.hub_core.specs.Settled.{knows_at};
-ghost use Rattle.hub_core.specs.State.{peer_in_life, unknown_peer, Peer as KnownPeer, changed_at};
+ghost use Rattle.hub_core.specs.State.{is_new_life as is_later, peer_in_life, unknown_peer, Peer as KnownPeer, changed_at};
 ghost use Rattle.subj.specs.declared.limits.TheConstants.{ROUTE_FRAMES, MAX_INCARNATION};
 ghost use Rattle.subj.specs.Servers.{IsListed, place as place_of, own_name, name_of, is_peer};
 ghost use Rattle.hub_core.specs.Publishing.{with_frames};
@@ -119,12 +119,19 @@ impl Peer {
         Incarnation::new(self.seen).unwrap()
     }
 
+    /// Whether this incarnation is greater than was seen.
+    pub fn is_new_life(&self, inc: Incarnation) -> bool
+        ensures { result ≡ is_later self.now inc }
+    {
+        self.seen < inc.get()
+    }
+
     /// A frame of this incarnation is looked at, or a session has it: a greater one than was seen begins
     /// anew, and is not up.
     pub fn know(&mut self, alloc: Global, inc: Incarnation)
         ensures { self.new ≡ peer_in_life self.old inc }
     {
-        if self.seen < inc.get() {
+        if self.is_new_life(inc) {
             self.seen = inc.get();
             self.mark = 0;
             put_in(&mut self.heard, View::new(alloc));

@@ -1,28 +1,27 @@
 //! What a publish owes: a job for the server's own shards, a frame for each peer that is owed one, and who serves each queue name.
 
-ghost use Rattle.std.specs.Prelude.{◌≡◌, ℕ, ◌+◌, ◌<◌, ◌≤◌, ◌++◌, [], true, length, slice_get, unwrap_or, Some, IfOk, OnOk, if◌then◌else◌, ◌*◌, ◌&&◌, ◌||◌, map, option_and_then, option_to_list, take};
+ghost use Rattle.std.specs.Prelude.{◌≡◌, ℕ, ◌+◌, ◌<◌, ◌≤◌, ◌++◌, [], true, length, slice_get, Some, IfOk, OnOk, if◌then◌else◌, ◌*◌, ◌&&◌, ◌||◌, option_to_list, take};
 ghost use Rattle.std.specs.Option.{option_copied};
+ghost use Rattle.std.specs.List.{count_by};
 ghost use Rattle.subj.specs.declared.limits.TheConstants.{MAX_QUEUE_NAMES};
 ghost use Rattle.subj.specs.Servers.{name_of, own_name};
 ghost use Rattle.route_values.specs.declared.bodies.Body.TheVariants.{Msg};
 ghost use Rattle.hub_core.specs.State.{Peer as KnownPeer};
-ghost use Rattle.hub_core.specs.Choice.{is_eligible as eligible, weight_at as weighs, weights_from, names_from};
+ghost use Rattle.hub_core.specs.Choice.{is_eligible as eligible, weight_at as weighs, names_from};
 ghost use Rattle.hub_core.specs.Publishing.{is_owed as owed};
-ghost use Rattle.hub_core.specs.Chosen.{IsSplit, chosen_for, frame_at, sent_from, AreFound, wants_name_from};
+ghost use Rattle.hub_core.specs.Chosen.{IsSplit, chosen_for, frame_at, sent_from, AreFound, wants_name_from, KnowsPlain};
 ghost use Rattle.hub_core.specs.Serving.{is_alone_from};
 ghost use Rattle.subj.specs.QueueNames.{is_named, are_queue_names};
-ghost use Rattle.pick.specs.Pick.{pick_of};
-ghost use Rattle.interest.specs.Matches.{has_queue_match, names_in, AreGathered};
+ghost use Rattle.interest.specs.Matches.{has_plain_match, has_queue_match, names_in, AreGathered};
 
 use crate::own_interest::OwnInterest;
 use crate::peers::{Peer, frame_to};
 use interest::{FoundNames, Local, TooManyNames};
-use pick::choose;
 use route_values::{Body, Numbered};
 use std::alloc::{AllocError, Global};
 use subj::{
-    ConnId, Incarnation, Job, LentSubject, MAX_COUNTER, MAX_KEYS, MAX_NODES, MAX_QUEUE_NAMES,
-    MAX_WEIGHT, Message, NodeId, PubId, QueueName, QueueNames, ROUTE_FRAMES, ServerIdentity, Turn,
+    ConnId, Incarnation, Job, LentSubject, MAX_COUNTER, MAX_KEYS, MAX_WEIGHT, Message, NodeId,
+    PubId, QueueName, QueueNames, ROUTE_FRAMES, ServerIdentity, Turn,
 };
 
 /// What a publish owes, found before anything is changed.
@@ -41,16 +40,29 @@ pub(crate) struct Outgoing<'a> {
     pub server: &'a ServerIdentity,
     pub number: u64,
     pub message: &'a Message,
-    /// None where no queue name wants it.
-    pub names: Option<&'a FoundNames<'a>>,
+    pub names: &'a QueueNames,
     pub servers: &'a [Option<NodeId>],
+    /// By place, whether the server is a peer with a plain key that matches, where that is known.
+    pub plain: Option<&'a [bool]>,
+}
+
+/// Whether the peer at the place has a plain key that matches: as it is known, or by a look at its keys.
+fn has_plain(out: &Outgoing<'_>, place: usize, peer: &Peer) -> bool
+    requires { KnowsPlain (option_copied out.now.plain) out.now.message.now.subject place peer.now }
+    ensures { result ≡ has_plain_match out.now.message.now.subject peer.now.heard.keys }
+{
+    match out.plain {
+        Some(plain) => plain[place],
+        None => peer.heard.has_plain(&out.message.subject().lent()),
+    }
 }
 
 /// Whether the peer has a plain key that matches, or was chosen for one of the names.
-fn is_owed(peer: &Peer, message: &Message, queues: &QueueNames) -> bool
-    ensures { result ≡ owed message.now.subject queues.now peer.now }
+fn is_owed(out: &Outgoing<'_>, place: usize, peer: &Peer, queues: &QueueNames) -> bool
+    requires { KnowsPlain (option_copied out.now.plain) out.now.message.now.subject place peer.now }
+    ensures { result ≡ owed out.now.message.now.subject queues.now peer.now }
 {
-    peer.heard.has_plain(&message.subject().lent()) || !queues.as_slice().is_empty()
+    has_plain(out, place, peer) || !queues.as_slice().is_empty()
 }
 
 /// The frame for an incarnation of the peer at the place, with these queue names.
@@ -88,22 +100,24 @@ fn put_frame(
     peer: &Peer,
     frames: &mut Vec<Numbered>,
 ) -> Result<(), AllocError>
-    requires split { IsSplit (unwrap_or (option_copied out.now.names) []) out.now.servers.now }
+    requires split { IsSplit out.now.names.now out.now.servers.now }
     requires place { place < length out.now.server.now.names }
     requires first { 1 ≤ out.now.number }
     requires last { out.now.number ≤ MAX_COUNTER }
     requires seen { 1 ≤ peer.now.seen }
     requires eligible { eligible out.now.server.now place peer.now ≡ true }
+    requires plain { KnowsPlain (option_copied out.now.plain) out.now.message.now.subject place
+        peer.now }
     ensures { OnOk result (frames.new.items
         ≡ frames.old.items
         ++ frame_at out.now.server.now out.now.number out.now.message.now
-        (chosen_for (name_of out.now.server.now place) (unwrap_or (option_copied out.now.names) [])
+        (chosen_for (name_of out.now.server.now place) out.now.names.now
         out.now.servers.now)
         place peer.now) }
 {
     let to = out.server.names()[place];
     let queues = names_for(out.alloc, out.names, out.servers, to)?;
-    if !is_owed(peer, out.message, &queues) {
+    if !is_owed(out, place, peer, &queues) {
         return Ok(());
     }
     let inc = peer.incarnation();
@@ -120,15 +134,17 @@ fn add_frame(
     peer: &Peer,
     frames: &mut Vec<Numbered>,
 ) -> Result<(), AllocError>
-    requires split { IsSplit (unwrap_or (option_copied out.now.names) []) out.now.servers.now }
+    requires split { IsSplit out.now.names.now out.now.servers.now }
     requires place { place < length out.now.server.now.names }
     requires first { 1 ≤ out.now.number }
     requires last { out.now.number ≤ MAX_COUNTER }
     requires seen { peer.now.up ≡ true → 1 ≤ peer.now.seen }
+    requires plain { KnowsPlain (option_copied out.now.plain) out.now.message.now.subject place
+        peer.now }
     ensures { OnOk result (frames.new.items
         ≡ frames.old.items
         ++ frame_at out.now.server.now out.now.number out.now.message.now
-        (chosen_for (name_of out.now.server.now place) (unwrap_or (option_copied out.now.names) [])
+        (chosen_for (name_of out.now.server.now place) out.now.names.now
         out.now.servers.now)
         place peer.now) }
 {
@@ -141,7 +157,7 @@ fn add_frame(
 /// The frames for all peers that are owed one, in the order of the servers.
 #[inline(always)]
 pub(crate) fn frames_for(out: &Outgoing<'_>, peers: &[Peer]) -> Result<Vec<Numbered>, AllocError>
-    requires split { IsSplit (unwrap_or (option_copied out.now.names) []) out.now.servers.now }
+    requires split { IsSplit out.now.names.now out.now.servers.now }
     requires placed { length peers.now ≡ length out.now.server.now.names }
     requires first { 1 ≤ out.now.number }
     requires last { out.now.number ≤ MAX_COUNTER }
@@ -149,11 +165,14 @@ pub(crate) fn frames_for(out: &Outgoing<'_>, peers: &[Peer]) -> Result<Vec<Numbe
         → slice_get peers.now q ≡ Some peer
         → peer.up ≡ true
         → 1 ≤ peer.seen }
+    requires plain { (q : ℕ) (peer : KnownPeer)
+        → slice_get peers.now q ≡ Some peer
+        → KnowsPlain (option_copied out.now.plain) out.now.message.now.subject q peer }
     ensures { IfOk result (λ frames.
         frames.items
         ≡ sent_from out.now.server.now out.now.number out.now.message.now
         (λ server_name.
-        chosen_for server_name (unwrap_or (option_copied out.now.names) []) out.now.servers.now)
+        chosen_for server_name out.now.names.now out.now.servers.now)
         0 peers.now) }
 {
     let mut frames = Vec::new(out.alloc);
@@ -171,7 +190,7 @@ pub(crate) fn own_job(
     conn: ConnId,
     echo: bool,
 ) -> Result<Job, AllocError>
-    requires split { IsSplit (unwrap_or (option_copied out.now.names) []) out.now.servers.now }
+    requires split { IsSplit out.now.names.now out.now.servers.now }
     ensures { IfOk result (λ job.
         job ≡ record {
           turn = turn;
@@ -184,7 +203,7 @@ pub(crate) fn own_job(
           publisher = Some conn;
           echo = echo;
           queues =
-              chosen_for (own_name out.now.server.now) (unwrap_or (option_copied out.now.names) [])
+              chosen_for (own_name out.now.server.now) out.now.names.now
               out.now.servers.now;
         }) }
 {
@@ -204,9 +223,6 @@ pub(crate) fn own_job(
         queues,
     })
 }
-
-/// The most servers, as the length of a list.
-const SERVERS: usize = MAX_NODES as usize;
 
 /// Whether the peer at the place is up, with room for one frame more.
 pub(crate) fn is_eligible(server: &ServerIdentity, place: usize, peer: &Peer) -> bool
@@ -301,7 +317,7 @@ pub(crate) fn gather_names<'a>(
 }
 
 /// What the server at the place weighs for the queue name. (Profile.)
-fn weight_at(
+pub(crate) fn weight_at(
     server: &ServerIdentity,
     counts: &Local,
     subject: &LentSubject<'_>,
@@ -319,72 +335,6 @@ fn weight_at(
         return peer.heard.weight_in(subject, name);
     }
     0
-}
-
-/// The server that serves the queue name, picked by the word among those that weigh for it. Takes no
-/// memory. (Profile.)
-fn server_for(
-    server: &ServerIdentity,
-    counts: &Local,
-    peers: &[Peer],
-    subject: &LentSubject<'_>,
-    word: u64,
-    name: &QueueName,
-) -> Option<NodeId>
-    requires { length peers.now ≡ length server.now.names }
-    ensures { result
-        ≡ pick_of (weights_from server.now counts.now subject.now name.now 0 peers.now) word }
-{
-    let _me = server.me();
-    let mut weights = [(server.name(), 0); SERVERS];
-    for (place, peer) in peers.iter().enumerate() {
-        let weight = weight_at(server, counts, subject, name, place, peer);
-        weights[place] = (server.names()[place], weight);
-    }
-    choose(&weights[..peers.len()], word)
-}
-
-/// The same of a name that may be none.
-fn server_at(
-    server: &ServerIdentity,
-    counts: &Local,
-    peers: &[Peer],
-    subject: &LentSubject<'_>,
-    word: u64,
-    name: Option<&QueueName>,
-) -> Option<NodeId>
-    requires { length peers.now ≡ length server.now.names }
-    ensures { result
-        ≡ option_and_then
-        (λ name. pick_of (weights_from server.now counts.now subject.now name 0 peers.now) word)
-        (option_copied name.entry) }
-{
-    server_for(server, counts, peers, subject, word, name?)
-}
-
-/// The server of each of the names, at its place. Takes memory for as many as there are.
-pub(crate) fn servers_for(
-    alloc: Global,
-    server: &ServerIdentity,
-    counts: &Local,
-    peers: &[Peer],
-    subject: &LentSubject<'_>,
-    word: u64,
-    names: &FoundNames<'_>,
-) -> Result<Vec<Option<NodeId>>, AllocError>
-    requires { length peers.now ≡ length server.now.names }
-    ensures few { length names.now ≤ MAX_QUEUE_NAMES }
-    ensures same { IfOk result (λ servers.
-        servers.items
-        ≡ map
-        (λ name. pick_of (weights_from server.now counts.now subject.now name 0 peers.now) word)
-        names.now) }
-{
-    let mut servers = Vec::new(alloc);
-    for place in 0..names.len() {
-        servers.push(server_at(server, counts, peers, subject, word, names.get(place)))?;
-    }
-    Ok(servers)
 }
 
 /// Whether the server was chosen.
@@ -414,11 +364,10 @@ pub(crate) fn push_copy(
     Ok(())
 }
 
-/// Copies of the names for which the server of this name was chosen. Takes memory only where there are
-/// some.
+/// Copies of the names for which the server of this name was chosen.
 fn names_of(
     alloc: Global,
-    names: &FoundNames<'_>,
+    names: &[QueueName],
     servers: &[Option<NodeId>],
     server_name: NodeId,
 ) -> Result<Vec<QueueName>, AllocError>
@@ -428,16 +377,16 @@ fn names_of(
     let mut chosen = Vec::new(alloc);
     for place in 0..names.len() {
         let is_put = is_chosen(&servers[place], server_name);
-        push_copy(alloc, &mut chosen, names.get(place), is_put)?;
+        push_copy(alloc, &mut chosen, Some(&names[place]), is_put)?;
     }
     Ok(chosen)
 }
 
-/// The same as a list that is shared. Takes memory only where there are some.
+/// The same as a list that is shared.
 #[inline(never)]
 fn names_among(
     alloc: Global,
-    names: &FoundNames<'_>,
+    names: &QueueNames,
     servers: &[Option<NodeId>],
     server_name: NodeId,
 ) -> Result<QueueNames, AllocError>
@@ -445,29 +394,44 @@ fn names_among(
     requires ordered { are_queue_names (chosen_for server_name names.now servers.now) ≡ true }
     ensures { IfOk result (λ queues. queues ≡ chosen_for server_name names.now servers.now) }
 {
-    let chosen = names_of(alloc, names, servers, server_name)?;
+    let chosen = names_of(alloc, names.as_slice(), servers, server_name)?;
     let queues = QueueNames::from_names(alloc, chosen)?;
     Ok(queues.unwrap())
 }
 
-/// The queue names for which the server of this name was chosen, of those that were found, if any. Takes memory only
-/// where there are some.
+/// For how many of so many names the server of this name was chosen.
+fn count_chosen(servers: &[Option<NodeId>], count: usize, server_name: NodeId) -> usize
+    requires { count ≤ length servers.now }
+    ensures { result ≡ count_by (is_named server_name) (take count servers.now) }
+{
+    let mut chosen = 0;
+    for place in 0..count {
+        if is_chosen(&servers[place], server_name) {
+            chosen += 1;
+        }
+    }
+    chosen
+}
+
+/// The queue names for which the server of this name was chosen. Takes memory only where these are some of the names, and not all.
 #[inline(always)]
 pub(crate) fn names_for(
     alloc: Global,
-    names: Option<&FoundNames<'_>>,
+    names: &QueueNames,
     servers: &[Option<NodeId>],
     server_name: NodeId,
 ) -> Result<QueueNames, AllocError>
-    requires all { length (unwrap_or (option_copied names) []) ≤ length servers.now }
-    requires ordered { are_queue_names
-        (chosen_for server_name (unwrap_or (option_copied names) []) servers.now)
-        ≡ true }
-    ensures { IfOk result (λ queues.
-        queues ≡ chosen_for server_name (unwrap_or (option_copied names.entry) []) servers.now) }
+    requires all { length names.now ≤ length servers.now }
+    requires ordered { are_queue_names (chosen_for server_name names.now servers.now) ≡ true }
+    ensures { IfOk result (λ queues. queues ≡ chosen_for server_name names.now servers.now) }
 {
-    match names {
-        None => Ok(QueueNames::new()),
-        Some(names) => names_among(alloc, names, servers, server_name),
+    let all = names.as_slice().len();
+    let chosen = count_chosen(servers, all, server_name);
+    if chosen == 0 {
+        return Ok(QueueNames::new());
     }
+    if chosen == all {
+        return names.try_clone();
+    }
+    names_among(alloc, names, servers, server_name)
 }

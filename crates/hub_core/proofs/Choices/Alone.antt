@@ -43,7 +43,7 @@ others server q peer peers alone =
 
 -- ---- no peer adds a name, and none is owed a frame
 
-names_alone : (server : ServerIdentity) (subject : List ℕ) (q : ℕ) (peers : List Peer) (names : List (List ℕ))
+pub names_alone : (server : ServerIdentity) (subject : List ℕ) (q : ℕ) (peers : List Peer) (names : List (List ℕ))
     → Alone server q peers
     → names_from server subject q peers names ≡ names
 names_alone server subject q [] names alone = refl

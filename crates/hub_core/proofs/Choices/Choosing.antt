@@ -1,8 +1,9 @@
 -- The choice, name by name and peer by peer.
 use Rattle.std.proofs.Common.{◌≡◌, ℕ, suc, ◌+◌, ◌*◌, ◌<◌, ◌≤◌, Bool, true, false, ◌&&◌, ◌||◌, cond, List, [], ◌∷◌, ◌++◌, length, take, drop, get_or, Option, Some, refl, sym, ap, ◌∙◌, arith, append_assoc, add-one}
 use Rattle.std.specs.Prelude.{map, slice_get, slice_set, unwrap_or, option_and_then, option_to_list, if◌then◌else◌}
-use Rattle.std.proofs.lemmas.List.{take_more_set, at_drop_more, at_drop_all, append-nil}
-use Rattle.std.proofs.lemmas.List.Sums.{sum_by-append}
+use Rattle.std.proofs.lemmas.List.{length-take-le, take_more_set, at_drop_more, at_drop_all, append-nil}
+use Rattle.std.specs.List.{count_by}
+use Rattle.std.proofs.lemmas.List.Sums.{sum_by-append, sum_by-cons, count_by-le-length}
 use Rattle.std.proofs.lemmas.Option.{slice_get-get_or}
 use Rattle.list_laws.proofs.Tests.{or_false}
 use Rattle.subj.specs.QueueNames.{is_named}
@@ -197,3 +198,53 @@ chosen_step server_name names servers i server name put below room read is test 
     then option_to_list ((sym (slice_get-get_or names i [] below) ∙ sym is) k)
     else [])
     ++ chosen_for server_name (drop (i + 1) names) (drop (i + 1) servers))
+
+-- where the server was chosen for none of the names, and for all of them
+
+pub chosen_none : (server_name : List ℕ) (names : List (List ℕ)) (servers : List (Option (List ℕ)))
+    → count_by (is_named server_name) (take (length names) servers) ≡ 0
+    → chosen_for server_name names servers ≡ []
+chosen_none server_name [] servers none = refl
+chosen_none server_name (name ∷ names) [] none = refl
+chosen_none server_name (name ∷ names) (server ∷ servers) none =
+    go (chosen_none server_name names servers) (is_named server_name server) refl
+  where
+    parts : count_by (is_named server_name) (take (suc (length names)) (server ∷ servers))
+        ≡ cond (is_named server_name server) 1 0 + count_by (is_named server_name) (take (length names) servers)
+    parts =
+        sum_by-cons (λ (s : Option (List ℕ)). cond (is_named server_name s) 1 0) server (take (length names) servers)
+
+    go : (count_by (is_named server_name) (take (length names) servers) ≡ 0 → chosen_for server_name names servers ≡ [])
+        → (b : Bool)
+        → is_named server_name server ≡ b
+        → cond b (name ∷ chosen_for server_name names servers) (chosen_for server_name names servers) ≡ []
+    go later true e = let one = ap {B = ℕ} (λ b. cond b 1 0) e in absurd (omega (arith, none, parts, one))
+    go later false e = let zero = ap {B = ℕ} (λ b. cond b 1 0) e in later (omega (arith, none, parts, zero))
+
+pub chosen_all : (server_name : List ℕ) (names : List (List ℕ)) (servers : List (Option (List ℕ)))
+    → length names ≤ length servers
+    → count_by (is_named server_name) (take (length names) servers) ≡ length names
+    → chosen_for server_name names servers ≡ names
+chosen_all server_name [] servers room all = refl
+chosen_all server_name (name ∷ names) [] room all = absurd (omega (arith, room))
+chosen_all server_name (name ∷ names) (server ∷ servers) room all =
+    go (chosen_all server_name names servers (omega (arith, room))) (is_named server_name server) refl
+  where
+    parts : count_by (is_named server_name) (take (suc (length names)) (server ∷ servers))
+        ≡ cond (is_named server_name server) 1 0 + count_by (is_named server_name) (take (length names) servers)
+    parts =
+        sum_by-cons (λ (s : Option (List ℕ)). cond (is_named server_name s) 1 0) server (take (length names) servers)
+
+    most : count_by (is_named server_name) (take (length names) servers) ≤ length names
+    most =
+        let some = count_by-le-length (is_named server_name) (take (length names) servers) in
+        let few = length-take-le (length names) servers (omega (arith, room)) in omega (arith, some, few)
+
+    go : (count_by (is_named server_name) (take (length names) servers) ≡ length names
+        → chosen_for server_name names servers ≡ names)
+        → (b : Bool)
+        → is_named server_name server ≡ b
+        → cond b (name ∷ chosen_for server_name names servers) (chosen_for server_name names servers) ≡ name ∷ names
+    go later true e =
+        let one = ap {B = ℕ} (λ b. cond b 1 0) e in ap (λ l. name ∷ l) (later (omega (arith, all, parts, one)))
+    go later false e = let zero = ap {B = ℕ} (λ b. cond b 1 0) e in absurd (omega (arith, all, parts, zero, most))

@@ -140,12 +140,15 @@ module _ (old : Hub) (finished : List ℕ) (frame : Frame) (kept : IsKept old)
         sym (cond_some (is_peer old.server (place old.server frame.from)) (place old.server frame.from) q
         (sym look ∙ there)).1
 
+    pub found_within : q < length old.state.peers
+    found_within = subst (λ n. n < length old.state.peers) (sym q_is) origin_within
+
     peers_are : slice_set old.state.peers q new
         ≡ changed_at (λ (peer : Peer). told_by frame.body frame.number (peer_in_life peer frame.inc))
         (place old.server frame.from) old.state.peers
     peers_are =
         changed_is (λ (peer : Peer). told_by frame.body frame.number (peer_in_life peer frame.inc)) old.state.peers q x
-        new (subst (λ n. n < length old.state.peers) (sym q_is) origin_within) at told
+        new found_within at told
         ∙ ap (λ n.
         changed_at (λ (peer : Peer). told_by frame.body frame.number (peer_in_life peer frame.inc)) n old.state.peers)
         q_is

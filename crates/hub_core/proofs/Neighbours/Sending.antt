@@ -147,7 +147,7 @@ rising_left test (x ∷ names) rise =
     go true first rest = (λ k. first k && rest k)
     go false first rest = rest
 
-within : (n m : ℕ) → n ≤ m → nat_le n m ≡ true
+pub within : (n m : ℕ) → n ≤ m → nat_le n m ≡ true
 within n m few = grind (arith, nat_tests)
 
 pub are_some : (test : List ℕ → Bool) (names : List (List ℕ))

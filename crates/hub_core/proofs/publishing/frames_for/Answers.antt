@@ -1,8 +1,6 @@
-use Rattle.std.proofs.Common.{ℕ, ◌+◌, ◌++◌, List, [], drop, refl, sym, ap, ◌∙◌, Some}
+use Rattle.std.proofs.Common.{ℕ, ◌+◌, ◌++◌, List, drop, refl, sym, ap, ◌∙◌, Some}
 use Rattle.std.proofs.lemmas.Option.{slice_get-get_or}
 use Rattle.hub_core.specs.State.{Peer}
-use Rattle.std.specs.Prelude.{unwrap_or}
-use Rattle.std.specs.Option.{option_copied}
 use Rattle.subj.specs.Servers.{name_of}
 use Rattle.route_values.specs.Frames.{Frame}
 use Rattle.hub_core.specs.Chosen.{chosen_for, frame_at, sent_from}
@@ -16,7 +14,7 @@ loop-place-preserved c =
     let i = c.loop-place.place in
     let peer = c.index-peers-place.result in
     let queues_of : List ℕ → List (List ℕ) =
-    λ server_name. chosen_for server_name (unwrap_or (option_copied out.names) []) out.servers.now in
+    λ server_name. chosen_for server_name out.names.now out.servers.now in
     let rest = sent_from out.server.now out.number out.message.now queues_of (i + 1) (drop (i + 1) peers) in
     ap (λ (l : List Frame). l ++ rest) c.in_ok-add_frame.ensures
     ∙ frames_step out.server.now out.number out.message.now queues_of peers i peer
@@ -29,3 +27,9 @@ add_frame-requires-clause-seen c =
     let peers = c.args.peers.now in let i = c.loop-place.place in let peer = c.index-peers-place.result in
     let there = slice_get-get_or peers i peer c.loop-place-test.true in
     c.requires.seen i peer (there ∙ ap (λ (peer : Peer). Some peer) (sym c.index-peers-place.is))
+
+pub add_frame-requires-clause-plain : goal.add_frame-requires-clause-plain
+add_frame-requires-clause-plain c =
+    let peers = c.args.peers.now in let i = c.loop-place.place in let peer = c.index-peers-place.result in
+    let there = slice_get-get_or peers i peer c.loop-place-test.true in
+    c.requires.plain i peer (there ∙ ap (λ (peer : Peer). Some peer) (sym c.index-peers-place.is))

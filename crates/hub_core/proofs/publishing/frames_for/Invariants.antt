@@ -1,6 +1,4 @@
-use Rattle.std.proofs.Common.{◌≡◌, ◌++◌, [], drop}
-use Rattle.std.specs.Prelude.{unwrap_or}
-use Rattle.std.specs.Option.{option_copied}
+use Rattle.std.proofs.Common.{◌≡◌, ◌++◌, drop}
 use Rattle.hub_core.specs.Chosen.{chosen_for, sent_from}
 use Rattle.hub_core.proofs.publishing.frames_for.Given as goal
 
@@ -8,7 +6,7 @@ abbrev pub invariant-loop-place : goal.invariant-loop-place
 invariant-loop-place l =
     l.frames.items
     ++ sent_from l.out.server.now l.out.number l.out.message.now
-    (λ server_name. chosen_for server_name (unwrap_or (option_copied l.out.names) []) l.out.servers.now) l.place
+    (λ server_name. chosen_for server_name l.out.names.now l.out.servers.now) l.place
     (drop l.place l.peers)
     ≡ sent_from l.out.server.now l.out.number l.out.message.now
-    (λ server_name. chosen_for server_name (unwrap_or (option_copied l.out.names) []) l.out.servers.now) 0 l.peers
+    (λ server_name. chosen_for server_name l.out.names.now l.out.servers.now) 0 l.peers

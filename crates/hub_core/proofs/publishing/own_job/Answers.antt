@@ -1,6 +1,4 @@
-use Rattle.std.proofs.Common.{List, ℕ, [], Some, ap, ◌∙◌}
-use Rattle.std.specs.Prelude.{unwrap_or}
-use Rattle.std.specs.Option.{option_copied}
+use Rattle.std.proofs.Common.{List, ℕ, Some, ap, ◌∙◌}
 use Rattle.hub_core.specs.Chosen.{chosen_for}
 use Rattle.hub_core.proofs.publishing.own_job.Goals as goal
 
@@ -11,7 +9,7 @@ pub returns : goal.returns
 returns c =
     let out = c.args.out.now in
     let queues_is = c.in_ok-queues.ensures
-    ∙ ap (λ (name : List ℕ). chosen_for name (unwrap_or (option_copied out.names) []) out.servers.now) c.name.ensures in
+    ∙ ap (λ (name : List ℕ). chosen_for name out.names.now out.servers.now) c.name.ensures in
     λ k. record {
       turn = c.args.turn;
       id = record { origin = c.name-2.ensures k; inc = c.inc.ensures k; number = out.number };

@@ -1,6 +1,4 @@
 use Rattle.std.proofs.Common.{◌≡◌, ◌++◌, [], ◌∷◌, List, sym, ap, ◌∙◌, append-nil}
-use Rattle.std.specs.Prelude.{unwrap_or}
-use Rattle.std.specs.Option.{option_copied}
 use Rattle.route_values.specs.Frames.{Frame}
 use Rattle.hub_core.specs.Chosen.{message_frame}
 use Rattle.hub_core.proofs.Neighbours.Sending.{listed_name, none_owed, one_owed}
@@ -10,7 +8,7 @@ pub returns-then-not-is_owed : goal.returns-then-not-is_owed
 returns-then-not-is_owed c =
     let out = c.args.out.now in
     let server = out.server.now in
-    let names = unwrap_or (option_copied out.names) [] in
+    let names = out.names.now in
     let queues = c.in_ok-queues.queues in
     let name = c.index-names-place.result in
     let called =
@@ -23,7 +21,7 @@ pub returns : goal.returns
 returns c =
     let out = c.args.out.now in
     let server = out.server.now in
-    let names = unwrap_or (option_copied out.names) [] in
+    let names = out.names.now in
     let queues = c.in_ok-queues.queues in
     let name = c.index-names-place.result in
     let peer = c.args.peer.now in

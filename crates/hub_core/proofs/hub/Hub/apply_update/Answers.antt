@@ -19,10 +19,12 @@ invariant_of-self c =
     let look = c.peer_place.ensures
     ∙ ap (λ (name : List ℕ).
     let o : Option ℕ = if is_peer i.server (place i.server name) then Some (place i.server name) else None in o)
-    c.from.ensures in
-    heard_kept old c.requires.taken.finished frame c.self.invariant cause c.peer_place.result c.unwrap-place.result
-    c.index_mut-peer.result.now c.apply_update.new.self look c.unwrap-place.ensures c.index_mut-peer.ensures.value
-    c.requires.news c.apply_update.result c.apply_update.ensures
+    c.from.ensures in (
+      heard_kept old c.requires.taken.finished frame c.self.invariant.0 cause c.peer_place.result c.unwrap-place.result
+          c.index_mut-peer.result.now c.apply_update.new.self look c.unwrap-place.ensures c.index_mut-peer.ensures.value
+          c.requires.news c.apply_update.result c.apply_update.ensures,
+      tt,
+    )
 
 pub returns : goal.returns
 returns c =
@@ -42,6 +44,6 @@ returns c =
     IsAnswered {R = HubFault} {T = Unit {0}} None (λ _. new ≡ record h { state = after_receive h.server h.state frame })
     (new ≡ h) c.apply_update.result)
     c.self.view_is
-    (heard_done old c.requires.taken.finished frame c.self.invariant cause c.peer_place.result c.unwrap-place.result
+    (heard_done old c.requires.taken.finished frame c.self.invariant.0 cause c.peer_place.result c.unwrap-place.result
     c.index_mut-peer.result.now c.apply_update.new.self look c.unwrap-place.ensures c.index_mut-peer.ensures.value
     c.requires.news c.apply_update.result c.apply_update.ensures)

@@ -19,7 +19,10 @@ returns-then-is_empty c = λ shard.
     let Tells : Hub → List Delta → List Change → List ℕ → Type 0 = λ hub deltas changes cut.
     (collect_refusal hub.state deltas ≡ None)
     × DoesStep hub (Collect shard deltas) (Collected changes (collect_frames hub.server hub.state deltas) cut) hub in
-    let told : Tells old [] [] [] = (nothing_refused old c.self.invariant, nothing_told old c.self.invariant shard) in
+    let told : Tells old [] [] [] = (
+      nothing_refused old c.self.invariant.0,
+      nothing_told old c.self.invariant.0 shard,
+    ) in
     let here : Tells c.args.self.now [] [] [] = subst (λ (hub : Hub). Tells hub [] [] []) c.self.view_is told in
     let counted : Tells c.args.self.now deltas [] [] =
     subst (λ (ds : List Delta). Tells c.args.self.now ds [] []) (sym none) here in

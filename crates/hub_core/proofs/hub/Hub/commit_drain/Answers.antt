@@ -19,7 +19,7 @@ tell_peers-requires-clause-room c =
     let plan : IsDrainOf old frames c.args.plan.cut.items =
     subst (λ (h : Hub). IsDrainOf h frames c.args.plan.cut.items) (sym c.self.view_is) c.requires.planned in
     subst (λ (peers : List Peer). HasRoomFor old.server frames (map (without_slow 1) peers))
-    (sym c.deref_mut.ensures.value) (clearing_has_room old frames c.args.plan.cut.items c.self.invariant taken plan)
+    (sym c.deref_mut.ensures.value) (clearing_has_room old frames c.args.plan.cut.items c.self.invariant.0 taken plan)
 
 pub invariant_of-self : goal.invariant_of-self
 invariant_of-self c =
@@ -39,6 +39,8 @@ invariant_of-self c =
     ∙ map_length (without_slow 1) i.peers.items in
     let peers = take i.peers.len (c.tell_peers.new.peers ++ drop (length c.tell_peers.new.peers) i.peers.items) in
     let is : peers ≡ told = rewritten i.peers.len c.tell_peers.new.peers i.peers.items same i.peers.ok.0 ∙ put in
-    let new : State = record old.state { changed = i.changed + 1; draining = true; peers = peers } in
-    cleared_kept old frames c.args.plan.cut.items c.self.invariant taken plan new
-    (ap (λ (peers : List Peer). record old.state { changed = i.changed + 1; draining = true; peers = peers }) is)
+    let new : State = record old.state { changed = i.changed + 1; draining = true; peers = peers } in (
+      cleared_kept old frames c.args.plan.cut.items c.self.invariant.0 taken plan new
+          (ap (λ (peers : List Peer). record old.state { changed = i.changed + 1; draining = true; peers = peers }) is),
+      tt,
+    )

@@ -15,9 +15,11 @@ invariant_of-self c =
     subst (λ (h : Hub). IsMeeting h.server h.state c.args.place c.args.inc) (sym c.self.view_is) c.requires.meeting in
     let planned : c.args.snapshot ≡ snapshot_to old.server old.state c.args.place c.args.inc =
     subst (λ (h : Hub). c.args.snapshot ≡ snapshot_to h.server h.state c.args.place c.args.inc) (sym c.self.view_is)
-    c.requires.planned in
-    met_kept old c.args.place c.args.inc c.args.snapshot c.index_mut-peer.result.now c.know.new.self c.meet.new.self
-    c.self.invariant asked planned c.index_mut-peer.ensures.value c.know.ensures c.meet.ensures
+    c.requires.planned in (
+      met_kept old c.args.place c.args.inc c.args.snapshot c.index_mut-peer.result.now c.know.new.self c.meet.new.self
+          c.self.invariant.0 asked planned c.index_mut-peer.ensures.value c.know.ensures c.meet.ensures,
+      tt,
+    )
 
 pub returns : goal.returns
 returns c =
@@ -34,4 +36,4 @@ returns c =
     (slice_set i.peers.items c.args.place c.meet.new.self)))
     c.self.view_is
     (met_done old c.args.place c.args.inc c.args.snapshot c.index_mut-peer.result.now c.know.new.self c.meet.new.self
-    c.self.invariant asked planned c.index_mut-peer.ensures.value c.know.ensures c.meet.ensures)
+    c.self.invariant.0 asked planned c.index_mut-peer.ensures.value c.know.ensures c.meet.ensures)

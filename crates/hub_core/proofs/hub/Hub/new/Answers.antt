@@ -12,10 +12,12 @@ invariant_of-result c =
     c.in_ok-peers.ensures ∙ ap (λ (names : List (List ℕ)). replicate (length names) unknown_peer) c.names.ensures in
     let is :
     hub_of_parts server c.zero.result 0 0 false c.in_ok-counts.counts c.in_ok-peers.peers.items ≡ hub_at_start server =
-    λ k. hub_of_parts server (c.zero.ensures k) 0 0 false (c.in_ok-counts.ensures k) (peers_are k) in
-    subst IsKept (sym is) (record {
-      listed = c.me-me.ensures.server.known;
-      sound = stays_sound.start server;
-      published = omega arith;
-      changed = omega arith;
-    })
+    λ k. hub_of_parts server (c.zero.ensures k) 0 0 false (c.in_ok-counts.ensures k) (peers_are k) in (
+      subst IsKept (sym is) (record {
+        listed = c.me-me.ensures.server.known;
+        sound = stays_sound.start server;
+        published = omega arith;
+        changed = omega arith;
+      }),
+      tt,
+    )

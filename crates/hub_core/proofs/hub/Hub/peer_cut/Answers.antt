@@ -15,9 +15,11 @@ invariant_of-self c =
     let asked : is_peer old.server c.args.place ≡ true =
     subst (λ (h : Hub). is_peer h.server c.args.place ≡ true) (sym c.self.view_is) c.requires in
     let is = changed_is (λ (peer : Peer). record peer { up = false }) i.peers.items c.args.place
-    c.index_mut-peer.result.now c.cut.new.self (peer_within old c.args.place c.self.invariant asked)
-    c.index_mut-peer.ensures.value c.cut.ensures in
-    kept_after old.server old.state (Cut c.args.place)
-    (record old.state { peers = slice_set i.peers.items c.args.place c.cut.new.self }) c.self.invariant asked
-    (ap (λ (peers : List Peer). record old.state { peers = peers }) is) c.self.invariant.published
-    c.self.invariant.changed
+    c.index_mut-peer.result.now c.cut.new.self (peer_within old c.args.place c.self.invariant.0 asked)
+    c.index_mut-peer.ensures.value c.cut.ensures in (
+      kept_after old.server old.state (Cut c.args.place)
+          (record old.state { peers = slice_set i.peers.items c.args.place c.cut.new.self }) c.self.invariant.0 asked
+          (ap (λ (peers : List Peer). record old.state { peers = peers }) is) c.self.invariant.0.published
+          c.self.invariant.0.changed,
+      tt,
+    )

@@ -25,7 +25,7 @@ returns c = λ word.
     let serves = subst (λ (hub : Hub). ServesAlone hub.server hub.state subject names) (sym c.self.view_is)
     c.requires.names in
     let owed = is_local server state p names
-    (local_alone server state subject names c.self.invariant.listed c.self.invariant.sound serves) in
+    (local_alone server state subject names c.self.invariant.0.listed c.self.invariant.0.sound serves) in
     let turn_is : c.args.turn ≡ c.self.inside.issued + 1 =
     c.requires.turn ∙ ap (λ (hub : Hub). hub.state.issued + 1) (sym c.self.view_is) in
     let id_is = c.next_id.ensures ∙ ap (λ (hub : Hub). next_id hub.server hub.state) (sym c.self.view_is) in (

@@ -1,6 +1,5 @@
-use Rattle.std.proofs.Common.{◌≡◌, ◌+◌, List, [], Some, refl, sym, ap, ◌∙◌, subst}
-use Rattle.std.specs.Prelude.{slice_get, unwrap_or}
-use Rattle.std.specs.Option.{option_copied}
+use Rattle.std.proofs.Common.{◌≡◌, ◌+◌, List, Some, refl, sym, ap, ◌∙◌, subst}
+use Rattle.std.specs.Prelude.{slice_get}
 use Rattle.subj.specs.QueueNames.{are_rising}
 use Rattle.subj.specs.Servers.{own_name}
 use Rattle.hub_core.specs.State.{State, Peer}
@@ -24,8 +23,8 @@ frames_for-requires-clause-split c =
       counts = c.self.inside.counts;
       peers = c.self.inside.peers.items;
     } in
-    let names = unwrap_or (option_copied c.args.names) [] in
-    let servers = c.args.servers.now in
+    let names = c.args.split.now.names.now in
+    let servers = c.args.split.now.servers.now in
     let subject = c.args.publication.now.message.subject in
     let p = publication_by c.args.conn c.args.publication.now c.args.word in
     let served =
@@ -46,8 +45,8 @@ own_job-requires c =
       counts = c.self.inside.counts;
       peers = c.self.inside.peers.items;
     } in
-    let names = unwrap_or (option_copied c.args.names) [] in
-    let servers = c.args.servers.now in
+    let names = c.args.split.now.names.now in
+    let servers = c.args.split.now.servers.now in
     let subject = c.args.publication.now.message.subject in
     let p = publication_by c.args.conn c.args.publication.now c.args.word in
     let served =
@@ -62,9 +61,16 @@ own_job-requires c =
 
 pub frames_for-requires-clause-seen : goal.frames_for-requires-clause-seen
 frames_for-requires-clause-seen c = λ q peer at up.
-    (c.self.invariant.sound.peers q peer
+    (c.self.invariant.0.sound.peers q peer
     (ap (λ (peers : List Peer). slice_get peers q) (sym c.deref.ensures.value) ∙ at)).seen
     up
+
+pub frames_for-requires-clause-plain : goal.frames_for-requires-clause-plain
+frames_for-requires-clause-plain c = λ q peer at.
+    c.requires.plain q peer
+    (ap (λ (hub : Hub). slice_get hub.state.peers q) (sym c.self.view_is)
+    ∙ ap (λ (peers : List Peer). slice_get peers q) (sym c.deref.ensures.value)
+    ∙ at)
 
 pub returns : goal.returns
 returns c =
@@ -77,8 +83,8 @@ returns c =
       counts = c.self.inside.counts;
       peers = c.self.inside.peers.items;
     } in
-    let names = unwrap_or (option_copied c.args.names) [] in
-    let servers = c.args.servers.now in
+    let names = c.args.split.now.names.now in
+    let servers = c.args.split.now.servers.now in
     let subject = c.args.publication.now.message.subject in
     let p = publication_by c.args.conn c.args.publication.now c.args.word in
     let served =

@@ -1,10 +1,13 @@
-use Rattle.std.proofs.Common.{◌≡◌, true, None, sym, ◌∙◌, subst}
+use Rattle.std.proofs.Common.{◌≡◌, true, None, sym, ap, ◌∙◌, subst}
 use Rattle.std.specs.Prelude.{slice_set}
 use Rattle.subj.specs.Servers.{is_peer}
 use Rattle.hub_core.specs.Events.{TakeFrom, Taken}
 use Rattle.hub_core.specs.Peers.{take_refusal}
 use Rattle.hub_core.specs.Hubs.{Hub, DoesStep, hub_of_parts}
+use Rattle.hub_core.specs.State.{Peer}
+use Rattle.hub_core.proofs.Choices.Audiences.{views_set, stays_in_mind}
 use Rattle.hub_core.proofs.Neighbours.Taken.{taken_kept, taken_done}
+use Rattle.hub_core.proofs.Steps.Kept.{peer_within}
 use Rattle.hub_core.proofs.hub.Hub.take_route.Goals as goal
 
 pub invariant_of-self-2 : goal.invariant_of-self-2
@@ -12,8 +15,14 @@ invariant_of-self-2 c =
     let i = c.self.inside in
     let old = hub_of_parts i.server i.issued i.published i.changed i.draining i.counts i.peers.items in
     let is : is_peer old.server c.args.place ≡ true = sym c.is_peer.ensures.same ∙ c.if-not-is_peer.false in
-    taken_kept old c.args.place c.args.count c.in_ok-frames.frames.items c.index_mut-peer.result.now c.take.new.self
-    c.self.invariant is c.index_mut-peer.ensures.value c.in_ok-frames.ensures.frames c.in_ok-frames.ensures.ok
+    let heard = views_set i.peers.items c.args.place c.index_mut-peer.result.now c.take.new.self
+    (peer_within old c.args.place c.self.invariant.0 is) c.index_mut-peer.ensures.value
+    (ap (λ (peer : Peer). peer.heard) c.in_ok-frames.ensures.ok) in (
+      taken_kept old c.args.place c.args.count c.in_ok-frames.frames.items c.index_mut-peer.result.now c.take.new.self
+          c.self.invariant.0 is c.index_mut-peer.ensures.value c.in_ok-frames.ensures.frames c.in_ok-frames.ensures.ok,
+      stays_in_mind i.server i.counts i.peers.items (slice_set i.peers.items c.args.place c.take.new.self) i.memo heard
+          c.self.invariant.1,
+    )
 
 pub returns : goal.returns
 returns c =
@@ -27,4 +36,4 @@ returns c =
     (slice_set i.peers.items c.args.place c.take.new.self)))
     c.self.view_is
     (taken_done old c.args.place c.args.count c.in_ok-frames.frames.items c.index_mut-peer.result.now c.take.new.self
-    c.self.invariant is c.index_mut-peer.ensures.value c.in_ok-frames.ensures.frames c.in_ok-frames.ensures.ok)
+    c.self.invariant.0 is c.index_mut-peer.ensures.value c.in_ok-frames.ensures.frames c.in_ok-frames.ensures.ok)

@@ -18,7 +18,7 @@ tell_peers-requires-clause-room c =
     let plan : AreCounted old.server old.state deltas c.args.count frames = subst
     (λ (h : Hub). AreCounted h.server h.state deltas c.args.count frames) (sym c.self.view_is) c.requires.counted in
     subst (λ (peers : List Peer). HasRoomFor old.server frames (map (without_slow c.args.count) peers))
-    (sym c.deref_mut.ensures.value) (told_have_room old deltas c.args.count frames c.self.invariant plan)
+    (sym c.deref_mut.ensures.value) (told_have_room old deltas c.args.count frames c.self.invariant.0 plan)
 
 pub invariant_of-self : goal.invariant_of-self
 invariant_of-self c =
@@ -38,9 +38,11 @@ invariant_of-self c =
     ∙ map_length (without_slow count) i.peers.items in
     let peers = take i.peers.len (c.tell_peers.new.peers ++ drop (length c.tell_peers.new.peers) i.peers.items) in
     let is : peers ≡ told = rewritten i.peers.len c.tell_peers.new.peers i.peers.items same i.peers.ok.0 ∙ put in
-    let new : State = record old.state { changed = i.changed + count; counts = c.commit.new.self; peers = peers } in
-    told_kept old deltas count frames c.self.invariant plan new (λ i. record old.state {
-      changed = c.self.inside.changed + c.args.count;
-      counts = c.commit.ensures i;
-      peers = is i;
-    })
+    let new : State = record old.state { changed = i.changed + count; counts = c.commit.new.self; peers = peers } in (
+      told_kept old deltas count frames c.self.invariant.0 plan new (λ i. record old.state {
+        changed = c.self.inside.changed + c.args.count;
+        counts = c.commit.ensures i;
+        peers = is i;
+      }),
+      tt,
+    )

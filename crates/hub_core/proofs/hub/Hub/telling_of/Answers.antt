@@ -6,7 +6,7 @@ use Rattle.hub_core.proofs.hub.Hub.telling_of.Goals as goal
 pub frames_of_changes-requires-clause-seen : goal.frames_of_changes-requires-clause-seen
 frames_of_changes-requires-clause-seen c = record {
   seen = λ q peer at up.
-      (c.self.invariant.sound.peers q peer
+      (c.self.invariant.0.sound.peers q peer
       (ap (λ (peers : List Peer). slice_get peers q) (sym c.deref.ensures.value) ∙ at)).seen
       up;
 }

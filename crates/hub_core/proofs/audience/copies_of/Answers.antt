@@ -1,7 +1,7 @@
 use Rattle.std.proofs.Common.{[], arith}
 use Rattle.std.specs.Option.{option_copied}
 use Rattle.hub_core.proofs.Choices.Choosing.{copy_step}
-use Rattle.hub_core.proofs.own_interest.copies_of.Goals as goal
+use Rattle.hub_core.proofs.audience.copies_of.Goals as goal
 
 pub loop-place-preserved : goal.loop-place-preserved
 loop-place-preserved c =

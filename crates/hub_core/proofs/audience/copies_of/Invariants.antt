@@ -1,5 +1,5 @@
 use Rattle.std.proofs.Common.{◌≡◌, ◌++◌, drop}
-use Rattle.hub_core.proofs.own_interest.copies_of.Given as goal
+use Rattle.hub_core.proofs.audience.copies_of.Given as goal
 
 abbrev pub invariant-loop-place : goal.invariant-loop-place
 invariant-loop-place l = l.copies.items ++ drop l.place l.names ≡ l.names

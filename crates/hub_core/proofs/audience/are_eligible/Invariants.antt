@@ -1,0 +1,8 @@
+use Rattle.std.proofs.Common.{◌≡◌, drop}
+use Rattle.hub_core.specs.Audiences.{eligible_from}
+use Rattle.hub_core.proofs.audience.are_eligible.Given as goal
+
+abbrev pub invariant-loop-place : goal.invariant-loop-place
+invariant-loop-place l =
+    eligible_from l.server l.place (drop l.place l.peers) ≡ drop l.place l.eligible
+    → eligible_from l.server 0 l.peers ≡ l.eligible
