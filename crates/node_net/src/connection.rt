@@ -10,7 +10,8 @@ ghost use Rattle.node_net.specs.Sending.{ending_of, Sends, SendsTaken, SendsWhol
 
 use crate::client_link::ClientLink;
 use crate::handshake::Proving;
-use crate::limits::{FIRST_READ, IDLE_BYTES, READ_GROWTH};
+use crate::limits::IDLE_BYTES;
+use crate::read_size::ReadSize;
 use crate::route_link::{RouteLink, Stepped};
 use client_conn::ReadFault;
 use net_streams::{Outgoing, Stream, Wire};
@@ -21,19 +22,8 @@ use server_calls::{ServerCalls, ShardCalls};
 use server_events::{Caller, ClientCause, Event, RefusalCause};
 use std::alloc::{AllocError, Global};
 use std::sync::Wait;
-use subj::{ConnId, Failure, READ_BYTES, ServerIdentity as Life};
+use subj::{ConnId, Failure, ServerIdentity as Life};
 use wire_cut::FillFault;
-
-/// How many bytes are read at once behind a read of at most so many that gave so many.
-fn next_part(part: usize, count: usize) -> usize {
-    if count == part {
-        part.saturating_mul(READ_GROWTH).min(READ_BYTES)
-    } else if count < part / READ_GROWTH {
-        (part / READ_GROWTH).max(FIRST_READ)
-    } else {
-        part
-    }
-}
 
 /// Who is at the other end.
 #[derive(Drop)]
@@ -124,7 +114,7 @@ pub(crate) struct Connection<S: Stream> {
     out: Outgoing,
     ending: Ending,
     /// How many bytes are read at once.
-    part: usize,
+    part: ReadSize,
     /// How many bytes were read and sent since its buffers were given back.
     moved: usize,
     /// When its buffers are given back, in milliseconds since the loop began; never for the greatest number.
@@ -172,7 +162,7 @@ impl<S: Stream> Connection<S> {
             link,
             out: Outgoing::new(alloc),
             ending: Ending::Open,
-            part: FIRST_READ,
+            part: ReadSize::first(),
             moved: 0,
             rests_at: u64::MAX,
             has_more: false,
@@ -230,11 +220,11 @@ impl<S: Stream> Connection<S> {
             self.has_more = true;
             return;
         }
-        let part = self.part;
+        let part = self.part.bytes();
         match self.link.read_from(&mut self.wire, part) {
             Ok(count) => {
                 self.has_more = count == part || self.hangs_up;
-                self.part = next_part(part, count);
+                self.part = self.part.behind(count);
                 self.moved = self.moved.saturating_add(count);
             }
             Err(is_short) => {
@@ -252,7 +242,7 @@ impl<S: Stream> Connection<S> {
     pub fn rest_at(&mut self, time: u64)
         ensures { Rests self.old self.new }
     {
-        if self.moved > IDLE_BYTES || self.part > FIRST_READ {
+        if self.moved > IDLE_BYTES || self.part.has_grown() {
             self.rests_at = time;
         }
     }
@@ -262,7 +252,7 @@ impl<S: Stream> Connection<S> {
         if self.rests_at > now {
             return false;
         }
-        self.part = FIRST_READ;
+        self.part = ReadSize::first();
         self.moved = 0;
         self.rests_at = u64::MAX;
         self.link.rest();

@@ -12,7 +12,7 @@
 //! The server is whatever makes the calls of `server_calls`.
 //!
 //! In reading order: `client_link` and `route_link` make calls of what was read, and tell what they have come to (`runs`); a `handshake` is what a
-//! route begins with where the mesh has a secret, and `proving` is what the server does of it; `connection` has one of them with its stream; `laws`
+//! route begins with where the mesh has a secret, and `proving` is what the server does of it; `connection` has one of them with its stream (`read_size`: how much is read of it at once); `laws`
 //! says that what is sent to it keeps its order, that the turns of a client are runs of its life, and that a route reads all that came; `connections`
 //! has all of them, and what is noted of each until it is done; `server` takes them and lets them go, and finds those of clients (`clients`) and of
 //! other servers (`peers`); `turning` and `flushing` are a turn of its loop, by what was `taken` for clients, in `parts`, `draining` is what a server
@@ -38,6 +38,7 @@ mod parts;
 mod peers;
 mod placing;
 mod proving;
+mod read_size;
 mod route_link;
 mod running;
 mod runs;
