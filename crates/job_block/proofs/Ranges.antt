@@ -1,6 +1,6 @@
 -- Jobs that stand in a list one behind another.
 use Rattle.std.proofs.Common.{◌≡◌, ℕ, zero, suc, ◌+◌, ◌-◌, ◌<◌, ◌≤◌, List, [], ◌∷◌, length, take, drop, slice_get, slice_range, Some, refl, sym, ap, ◌∙◌, arith, length-drop, take_all}
-use Rattle.std.proofs.lemmas.List.{length-take-le, take-take}
+use Rattle.std.proofs.lemmas.List.{drop-drop, length-take-le, take-take}
 use Rattle.subj.specs.declared.jobs.Job.{Job}
 
 at_front : (n : ℕ) (jobs : List Job) (k : ℕ) → k < n → slice_get (take n jobs) k ≡ slice_get jobs k
@@ -31,6 +31,27 @@ pub first_in : (jobs : List Job) (start end count : ℕ) → count ≤ end - sta
 first_in jobs start end count few =
     ap (λ n. take n (drop start jobs)) {x = start + count - start} {y = count} (omega arith)
     ∙ sym (take-take count (end - start) (drop start jobs) few)
+
+none_behind : (n : ℕ) → take {A = Job} n [] ≡ []
+none_behind zero = refl
+none_behind (suc n) = refl
+
+drop_front : (count n : ℕ) (jobs : List Job) → drop count (take n jobs) ≡ take (n - count) (drop count jobs)
+drop_front zero n jobs = let same : n ≡ n - 0 = omega arith in ap (λ m. take m jobs) same
+drop_front (suc count) zero jobs =
+    let none : 0 ≡ 0 - suc count = omega arith in ap (λ m. take m (drop (suc count) jobs)) none
+drop_front (suc count) (suc n) [] = sym (none_behind (suc n - suc count))
+drop_front (suc count) (suc n) (job ∷ jobs) =
+    let same : n - count ≡ suc n - suc count = omega arith in
+    drop_front count n jobs ∙ ap (λ m. take m (drop count jobs)) same
+
+pub behind_in : (jobs : List Job) (start end count : ℕ)
+    → slice_range jobs (start + count) end ≡ drop count (slice_range jobs start end)
+behind_in jobs start end count =
+    let same : end - (start + count) ≡ end - start - count = omega arith in
+    ap (λ n. take n (drop (start + count) jobs)) same
+    ∙ ap (λ l. take (end - start - count) l) (sym (drop-drop count start jobs))
+    ∙ sym (drop_front count (end - start) (drop start jobs))
 
 pub from_in : (jobs : List Job) (start : ℕ) → slice_range jobs start (length jobs) ≡ drop start jobs
 from_in jobs start =

@@ -78,6 +78,18 @@ impl<'a> JobSlice<'a> {
         }
     }
 
+    /// The jobs behind the first so many.
+    pub fn behind(&self, count: usize) -> JobSlice<'a>
+        requires { count ≤ length self.now }
+        ensures { result ≡ drop count self.now }
+    {
+        JobSlice {
+            block: self.block,
+            start: self.start + count,
+            end: self.end,
+        }
+    }
+
     /// How many jobs from the first on are a run: each but the first has no header block and a payload of at most
     /// [`SHORT_BYTES`](crate::SHORT_BYTES), and has the subject, the publisher, the echo and the queue names of the one before it.
     pub fn run_len(&self) -> usize

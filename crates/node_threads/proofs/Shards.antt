@@ -1,5 +1,6 @@
 -- What a shard at work does, event by event, and what is kept in writing of it.
 pub mod Joining
+pub mod Following
 pub mod Clients
 pub mod Working
 pub mod RunSteps

@@ -198,9 +198,9 @@ fn work_claimed<T: SubTable, G: Gate>(
     shard.work_claims(&jobs.first(most), race, seat)
 }
 
-/// Works as many of these jobs to their ends in one call as it can, from the first on. Gives how many; 0 where the first one has to be worked
-/// alone. Required: there is a job.
-fn work_first<T: SubTable, G: Gate>(
+/// Works as many of these jobs to their ends in one call as it can, of those that are like the first. Gives how many; 0 where the first one has to
+/// be worked alone. Required: there is a job.
+fn work_alike<T: SubTable, G: Gate>(
     shard: &mut Shard<T>,
     seat: &mut ShardSeat,
     cells: &Cells,
@@ -220,6 +220,33 @@ fn work_first<T: SubTable, G: Gate>(
         return work_plain(shard, seat, cells, jobs);
     }
     work_claimed(shard, seat, &GatedCells { cells, gate }, jobs)
+}
+
+/// Works as many of these jobs to their ends in one call as it can, from the first on, run by run. Gives how many; 0 where the first one has to be
+/// worked alone.
+fn work_first<T: SubTable, G: Gate>(
+    shard: &mut Shard<T>,
+    seat: &mut ShardSeat,
+    cells: &Cells,
+    gate: &G,
+    jobs: &JobSlice<'_>,
+) -> usize
+    requires race { seat.old.race ≡ cells.now }
+    requires finished { seat.old.part.finished ≡ shard.old.state.finished }
+    requires next { seat.old.part.next ≡ 0 }
+    ensures race { seat.new.race ≡ seat.old.race }
+    ensures works { WorksFirst jobs.now result shard.old.state seat.old.part shard.new.state
+        seat.new.part }
+{
+    let mut done = 0;
+    while done < jobs.len() && seat.has_turn() {
+        let count = work_alike(shard, seat, cells, gate, &jobs.behind(done));
+        if count == 0 {
+            return done;
+        }
+        done += count;
+    }
+    done
 }
 
 /// That the queue name of this index was tried, whether it was won, and which message was placed then.

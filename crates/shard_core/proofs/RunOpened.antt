@@ -5,7 +5,8 @@ use Rattle.sub_table.specs.Subscriptions.{gets, has_serial}
 use Rattle.sub_table.specs.declared.Subscription.{Subscription}
 use Rattle.shard_core.specs.Closings.{serials_of}
 use Rattle.shard_core.specs.Members.{is_in_group, member_of, members_of}
-use Rattle.shard_core.specs.Notes.{HoldNotes}
+use Rattle.std.proofs.lemmas.List.Elements.{All-weaker}
+use Rattle.shard_core.specs.Notes.{AreNotedRightly, HoldNotes}
 use Rattle.shard_core.specs.Received.{receiver_of, receivers_of}
 use Rattle.shard_core.specs.RunReceivers.{sub_with_more}
 use Rattle.shard_core.specs.declared.notes.Notes.{Notes}
@@ -51,6 +52,8 @@ notes_more serial count subs notes was =
     subst (λ (l : List Subscription). HoldNotes l notes) (sym (more_is serial count subs)) (record {
       members = λ noted.
           was.members noted ∙ sym (members_recounted (count_with serial count) notes.members.subject.items subs);
-      receivers = λ noted.
-          was.receivers noted ∙ sym (receivers_recounted (count_with serial count) notes.receivers.subject.items subs);
+      receivers =
+          All-weaker (AreNotedRightly subs) (AreNotedRightly (map (recounted (count_with serial count)) subs))
+          (λ r right noted. right noted ∙ sym (receivers_recounted (count_with serial count) r.subject.items subs))
+          notes.receivers.places.items was.receivers;
     })

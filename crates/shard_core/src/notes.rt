@@ -1,19 +1,19 @@
-//! What is noted of a subject: its receivers, for the jobs that come in a row, and the members of queue groups among them, for the
-//! claims of one job.
+//! What is noted of subjects: the receivers of some, for the jobs that come again, and the members of queue groups among those of one, for the claims of
+//! one job.
 
 ghost use Rattle.std.specs.Prelude.{List};
 ghost use Rattle.sub_table.specs.declared.Subscription.{Subscription as Opened};
 ghost use Rattle.shard_core.specs.Notes.{HoldNotes};
 
 use crate::members::Members;
-use crate::receivers::Receivers;
+use crate::receivers::ManyReceivers;
 use std::alloc::Global;
 
 /// All that is noted of open subscriptions by a subject. It holds until one is opened or closed, or has another maximum.
 #[derive(Drop)]
 pub struct Notes {
     pub members: Members,
-    pub receivers: Receivers,
+    pub receivers: ManyReceivers,
 }
 
 impl Notes {
@@ -23,7 +23,7 @@ impl Notes {
     {
         Notes {
             members: Members::new(alloc),
-            receivers: Receivers::new(alloc),
+            receivers: ManyReceivers::new(alloc),
         }
     }
 

@@ -96,9 +96,9 @@ impl<T: SubTable> Openings<T> {
         ensures err { OnErr result (self.new ≡ self.old) }
     {
         let key = sub.key.try_clone(self.alloc)?;
-        self.notes.forget(); // one more may receive the subject
         reserve_for(&mut self.deltas, self.table.len())?;
         self.table.add(sub)?;
+        self.notes.forget(); // one more may receive the subject
         self.deltas.push_reserved(Delta { key, up: true });
         Ok(())
     }
@@ -177,6 +177,7 @@ impl<T: SubTable> Openings<T> {
     pub fn remember(&mut self, subject: &LentSubject<'_>)
         ensures { self.new ≡ self.old }
     {
+        self.notes.receivers.turn_to(subject.bytes());
         if self.notes.receivers.of(subject.bytes()).is_some() {
             return;
         }
@@ -201,6 +202,7 @@ impl<T: SubTable> Openings<T> {
     pub fn note_for_run(&mut self, subject: &LentSubject<'_>)
         ensures { self.new ≡ self.old }
     {
+        self.notes.receivers.turn_to(subject.bytes());
         if self.notes.receivers.of(subject.bytes()).is_some() {
             return;
         }
@@ -210,7 +212,8 @@ impl<T: SubTable> Openings<T> {
         }
     }
 
-    /// All who receive the subject, in order of opening, where they are noted.
+    /// All who receive the subject, in order of opening, where they are noted and this is the subject that was told of last
+    /// ([`Openings::remember`], [`Openings::note_for_run`]).
     pub fn receivers(&self, subject: &[u8]) -> Option<&[Receiver]>
         ensures all { IfSome result (λ receivers.
             receivers.now ≡ receivers_of subject.now (filter (gets subject.now) self.now.subs)) }

@@ -25,11 +25,11 @@ use std::alloc::{AllocError, Global};
 use sub_table::SubTable;
 use subj::{MAX_COUNTER, SubId, Turn};
 
-/// Whether a run may begin with the job: it has a short message, and claims no queue name.
+/// Whether a run may begin with the job: it has no header block, and claims no queue name.
 pub fn may_begin(job: &LentJob<'_>) -> bool
     ensures { result ≡ true → GoesWith job.now job.now }
 {
-    job.queues().as_slice().is_empty() && job.publication().is_short()
+    job.queues().as_slice().is_empty() && job.publication().headers.is_none()
 }
 
 /// Whether Begin places the job for the receiver.
@@ -214,7 +214,8 @@ fn stage_each(
 }
 
 /// Puts a run of these jobs for each of these receivers that may get the first job, unseen, and notes their serials. Tells whether that
-/// can be. What stands behind the ids of subscriptions is spelt once, where anyone gets it.
+/// can be: where anyone gets it, not if the first has a long message, which is shared and not spelt. What stands behind the ids of
+/// subscriptions is spelt once.
 fn stage_run(
     buffer: &mut RunBuffer,
     conns: &mut Conns,
@@ -235,6 +236,9 @@ fn stage_run(
     let Some(due) = first_due(first, receivers) else {
         return Ok(true);
     };
+    if !first.publication().is_short() {
+        return Ok(false);
+    }
     spell(&mut buffer.message, &mut buffer.tails, due, jobs)?;
     stage_each(buffer, conns, shard, first, receivers)
 }

@@ -7,17 +7,17 @@ use Rattle.node_threads.specs.AtWork.{AtWork, Makes}
 use Rattle.node_threads.specs.Steps.{Done, Leads, job_in, jobs_of, claimed_in, claims_of}
 use Rattle.node_threads.specs.Turns.{is_work, HasWorked, HasEnded}
 
-leads_join : (a b c : State) (first then : List Done) → Leads a first b → Leads b then c → Leads a (then ++ first) c
+pub leads_join : (a b c : State) (first then : List Done) → Leads a first b → Leads b then c → Leads a (then ++ first) c
 leads_join a b c first [] l m = subst (λ s. Leads a first s) (sym m) l
 leads_join a b c first (d ∷ earlier) l m = (m.0, leads_join a b d.before first earlier l m.1)
 
-jobs_join : (first then : List Done) → jobs_of (then ++ first) ≡ jobs_of first ++ jobs_of then
+pub jobs_join : (first then : List Done) → jobs_of (then ++ first) ≡ jobs_of first ++ jobs_of then
 jobs_join first [] = sym (append-nil (jobs_of first))
 jobs_join first (d ∷ earlier) =
     ap (λ l. l ++ job_in d.event) (jobs_join first earlier)
     ∙ append_assoc (jobs_of first) (jobs_of earlier) (job_in d.event)
 
-claims_join : (as_won : Bool) (first then : List Done)
+pub claims_join : (as_won : Bool) (first then : List Done)
     → claims_of as_won (then ++ first) ≡ claims_of as_won first ++ claims_of as_won then
 claims_join as_won first [] = sym (append-nil (claims_of as_won first))
 claims_join as_won first (d ∷ earlier) =

@@ -4,7 +4,8 @@ use Rattle.std.specs.List.{list_any}
 use Rattle.sub_table.specs.Subscriptions.{gets}
 use Rattle.sub_table.specs.declared.Subscription.{Subscription}
 use Rattle.shard_core.specs.Owed.{sub_with_count}
-use Rattle.shard_core.specs.Notes.{HoldNotes}
+use Rattle.std.proofs.lemmas.List.Elements.{All-weaker}
+use Rattle.shard_core.specs.Notes.{AreNotedRightly, HoldNotes}
 use Rattle.shard_core.specs.Received.{receiver_of, receivers_of}
 use Rattle.shard_core.specs.declared.notes.Notes.{Notes}
 use Rattle.shard_core.proofs.Turns.Groups.{noted_counted}
@@ -47,5 +48,8 @@ pub notes_counted : (given : List ℕ) (us : List Subscription) (notes : Notes)
     → HoldNotes (map (sub_with_count given) us) notes
 notes_counted given us notes was = record {
   members = noted_counted given us notes.members was.members;
-  receivers = λ noted. was.receivers noted ∙ sym (receivers_counted notes.receivers.subject.items given us);
+  receivers =
+      All-weaker (AreNotedRightly us) (AreNotedRightly (map (sub_with_count given) us))
+      (λ r right noted. right noted ∙ sym (receivers_counted r.subject.items given us)) notes.receivers.places.items
+      was.receivers;
 }

@@ -12,7 +12,7 @@ use std::alloc::AllocError;
 use sub_table::SubTable;
 
 impl<T: SubTable> Shard<T> {
-    /// Whether a run may begin with this job: no other is in hand, it has a short message and claims no queue name, and no run of it was
+    /// Whether a run may begin with this job: no other is in hand, it has no header block and claims no queue name, and no run of it was
     /// tried in vain.
     fn may_begin_run(&self, first: &LentJob<'_>) -> bool
         ensures hand { result ≡ true → self.now.state.hand ≡ None }
@@ -26,8 +26,8 @@ impl<T: SubTable> Shard<T> {
     /// nothing closed. Gives how many jobs these were.
     ///
     /// None where the first one has to go that way: where a job is in hand, or the turn is not the one behind the last that was
-    /// finished; where it claims a queue name, or has a header block or a long payload. None either where many receive its subject, or one of
-    /// the receivers has a maximum, or its connection is shut, has no room for the whole run, or has another receiver of it. Want of memory
+    /// finished; where it claims a queue name, or has a header block, or a long payload that anyone receives. None either where many receive its
+    /// subject, or one of the receivers has a maximum, or its connection is shut, has no room for the whole run, or has another receiver of it. Want of memory
     /// leaves the state as it was.
     pub fn deliver_run(&mut self, jobs: &JobSlice<'_>) -> Result<usize, AllocError>
         ensures ok { IfOk result (λ count. DeliversRun jobs.now count self.old self.new) }

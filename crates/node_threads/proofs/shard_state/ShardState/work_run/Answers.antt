@@ -1,25 +1,14 @@
 use Rattle.std.proofs.Common.{rules, ◌≡◌, ◌+◌, ◌-◌, ◌<◌, false, true, true≢false, Some, sym, ap, ◌∙◌, subst, arith}
 use Rattle.std.specs.Prelude.{slice_get}
-use Rattle.claim_cells.specs.Seats.{HasTurn}
 use Rattle.node_threads.specs.AtWork.{IsAtWork, seen_as}
 use Rattle.node_threads.specs.Tapes.{Tells}
-use Rattle.node_threads.specs.Turns.{HasWorkedRun, MayBegin, WorksFirst}
+use Rattle.node_threads.specs.Turns.{HasWorkedRun, WorksFirst}
 use Rattle.node_threads.proofs.Shards.Runs.{first_to_claim, last_turn, run_done, run_told, same_shard}
 use Rattle.node_threads.proofs.Shards.Telling.{tells_nothing, tells_steps}
 use Rattle.node_threads.proofs.shard_state.ShardState.work_run.Goals as goal
 
 pub returns-then-not-self-clause-tells : goal.returns-then-not-self-clause-tells
 returns-then-not-self-clause-tells g c = tells_nothing c.args.self.now c.args.tape.now
-
-pub work_first-count-requires-clause-seen : goal.work_first-count-requires-clause-seen
-work_first-count-requires-clause-seen g c =
-    let s = c.self.inside in
-    let i = c.self.invariant in
-    let on : s.waits ≡ true = search rules in
-    let first = first_to_claim g.N.NodeName.race.shards s.next_index s.shard.state s.seat.part s.lane.popped s.lane.hand
-    s.waits i.0 on (i.1 on) in
-    let seen : HasTurn s.seat.part = (subst MayBegin (sym c.self.view_is) c.requires.may first.0).1 in
-    search seen
 
 pub work_first-count-requires-clause-finished : goal.work_first-count-requires-clause-finished
 work_first-count-requires-clause-finished g c =
