@@ -62,6 +62,13 @@ impl Hub {
         !self.is_named(subject) && !is_wanted_elsewhere(&self.server, &self.peers, subject)
     }
 
+    /// Whether some subscription of the server's own clients wants the subject, one without a queue name.
+    pub fn is_wanted_here(&self, subject: &LentSubject<'_>) -> bool
+        ensures { result ≡ has_plain_match subject.now self.now.state.counts }
+    {
+        self.counts.counts().has_plain(subject)
+    }
+
     /// The queue names of a publication on this subject, where it owes the server's own shards a job with just these, and nothing else:
     /// just they want it, the server serves each of them itself, and no peer is owed a frame. None where it may owe more, for want of
     /// memory, and where names want it that are not in mind.

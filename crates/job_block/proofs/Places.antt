@@ -1,21 +1,20 @@
 -- The jobs of a block, each at its place.
 use Rattle.std.proofs.Common.{◌≡◌, ℕ, zero, suc, ◌+◌, ◌-◌, ◌*◌, ◌<◌, ◌≤◌, List, [], ◌∷◌, ◌++◌, length, get_or, Some, refl, sym, ap, subst, ◌∙◌, arith, length-append}
-use Rattle.std.specs.Prelude.{Bool, ◌==◌, not, Option, None, true, IfSome, is_some, slice_get}
+use Rattle.std.specs.Prelude.{Bool, ◌==◌, not, Option, None, true, IfSome, slice_get}
 use Rattle.std.proofs.lemmas.Bool.{not-true, true≢false}
 use Rattle.std.proofs.Math.Nat.{mul-le-mul_right}
 use Rattle.std.proofs.lemmas.Option.{same_Some, none-some, get_or_from_slice_get, slice_get_read, slice_get_within}
-use Rattle.subj.specs.Messages.{Content, body_of}
+use Rattle.subj.specs.Messages.{Content}
 use Rattle.subj.specs.declared.jobs.Job.{Job}
 use Rattle.subj.specs.declared.limits.TheConstants.{MAX_COUNTER}
-use Rattle.job_block.specs.Publications.{IsShort}
+use Rattle.job_block.specs.Publications.{IsPublishable, IsShort}
 use Rattle.job_block.specs.declared.kept.KeptJob.{KeptJob}
 use Rattle.job_block.specs.declared.kept.KeptMessage.{KeptMessage}
 use Rattle.job_block.specs.declared.kept.KeptMessage.TheVariants.{InText, Shared}
 use Rattle.job_block.specs.Spans.{Extends, IsPart}
 use Rattle.job_block.specs.declared.spans.Span.{Span}
 use Rattle.job_block.specs.declared.kept.Origin.{Origin}
-use Rattle.job_block.specs.declared.kept.TheConstants.{SHARED_BYTES}
-use Rattle.job_block.specs.Kept.{AreKept, IsBlock, IsKeptAs, IsKeptMessage, IsOfLast, IsSmall, job_in, jobs_in, message_in, shared_in}
+use Rattle.job_block.specs.Kept.{AreKept, IsBlock, IsKeptAs, IsKeptMessage, IsOfLast, job_in, jobs_in, message_in, shared_in}
 use Rattle.job_block.specs.Blocks.{AreNumberedFrom, Block, FollowsAlike, GoesOnAt, IsLast, IsPushed, job_of, turn_behind}
 use Rattle.job_block.proofs.Texts.{spans_later, content_later}
 use Rattle.job_block.proofs.Runs.{goes_on_last, goes_on_later, goes_on_put}
@@ -160,7 +159,7 @@ kept_later : (old new : List ℕ) (message : KeptMessage) → Extends old new �
     → IsKeptMessage new message × (message_in new message ≡ message_in old message)
 kept_later old new (InText spans) grows is =
     let same = content_later old new spans grows is.0 in (
-      (spans_later old new spans grows is.0, subst IsSmall (sym same) is.1),
+      (spans_later old new spans grows is.0, subst IsPublishable (sym same) is.1),
       same,
     )
 kept_later old new (Shared content) grows is = (is, refl)
@@ -389,13 +388,6 @@ pub shared_same : (text : List ℕ) (message : KeptMessage)
     → IfSome (shared_in message) (λ m. m ≡ message_in text message)
 shared_same text (InText spans) = tt
 shared_same text (Shared content) = refl
-
--- a large one stands apart
-pub shared_large : (text : List ℕ) (message : KeptMessage) → IsKeptMessage text message
-    → SHARED_BYTES ≤ length (body_of (message_in text message))
-    → is_some (shared_in message) ≡ true
-shared_large text (InText spans) is large = let small = is.1.small in absurd (omega (arith, small, large))
-shared_large text (Shared content) is large = refl
 
 -- memory of places and of a text, each within its bound
 pub memory_within : (text places most count size : ℕ) → text ≤ most → places ≤ count

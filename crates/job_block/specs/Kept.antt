@@ -1,12 +1,11 @@
--- How the jobs of a block are kept: the parts of small messages in one text, larger messages apart.
-use Rattle.std.specs.Prelude.{◌≡◌, ◌<◌, ◌≤◌, ℕ, ◌+◌, ◌-◌, true, List, [], ◌∷◌, length, slice_get, All, Option, Some, None}
-use Rattle.subj.specs.Messages.{Content, body_of}
+-- How the jobs of a block are kept: the parts of their messages in one text, or a message apart.
+use Rattle.std.specs.Prelude.{◌≡◌, ◌≤◌, ℕ, ◌+◌, ◌-◌, true, List, [], ◌∷◌, length, slice_get, All, Option, Some, None}
+use Rattle.subj.specs.Messages.{Content}
 use Rattle.subj.specs.declared.jobs.Job.{Job}
 use Rattle.subj.specs.declared.limits.TheConstants.{MAX_COUNTER}
 use Rattle.job_block.specs.declared.kept.KeptJob.{KeptJob}
 use Rattle.job_block.specs.declared.kept.KeptMessage.{KeptMessage}
 use Rattle.job_block.specs.declared.kept.KeptMessage.TheVariants.{InText, Shared}
-use Rattle.job_block.specs.declared.kept.TheConstants.{SHARED_BYTES}
 use Rattle.job_block.specs.Blocks.{GoesOnAt}
 use Rattle.job_block.specs.Publications.{IsPublishable}
 use Rattle.job_block.specs.declared.spans.Span.{Span}
@@ -16,14 +15,8 @@ abbrev pub message_in : List ℕ → KeptMessage → Content
 message_in text (InText spans) = content_in text spans
 message_in text (Shared content) = content
 
--- it can be published, and is small
-pub record IsSmall (content : Content) : Type 0 where
-  pub publishable : IsPublishable content
-  pub small : length (body_of content) < SHARED_BYTES
-
--- only small ones stand in the text
 abbrev pub IsKeptMessage : List ℕ → KeptMessage → Type 0
-IsKeptMessage text (InText spans) = AreSpans text spans × IsSmall (content_in text spans)
+IsKeptMessage text (InText spans) = AreSpans text spans × IsPublishable (content_in text spans)
 IsKeptMessage text (Shared content) = Unit {0}
 
 -- the message is kept so

@@ -90,10 +90,10 @@ fn with_room<T: Drop>(alloc: Global, room: usize) -> Vec<T>
     }
 }
 
-/// Jobs of turns that follow one another, as of the publications that came in one read. The bytes of small publications stand one
-/// behind another in one text, where a subject that comes again at once stands once. A publication of [`SHARED_BYTES`] and more stands
-/// apart, as a message that all share, and so does each job that comes with its message. So the job of a small publication takes no
-/// memory of its own, and its parts are seen without a copy.
+/// Jobs of turns that follow one another, as of the publications that came in one read. The bytes of small publications, and of those
+/// that nobody is known to want, stand one behind another in one text, where a subject that comes again at once stands once. One of
+/// [`SHARED_BYTES`] and more that is wanted stands apart, as a message that all share, and so does each job that comes with its message.
+/// So the job of a publication in the text takes no memory of its own, and its parts are seen without a copy.
 ///
 /// The memory is used again for other jobs.
 ///
@@ -103,7 +103,7 @@ fn with_room<T: Drop>(alloc: Global, room: usize) -> Vec<T>
 /// [`SHARED_BYTES`]: crate::SHARED_BYTES
 #[derive(Drop)]
 pub struct JobBlock {
-    /// The bytes of small messages.
+    /// The bytes of the messages that do not stand apart.
     text: Vec<u8>,
     kept: Vec<KeptJob>,
     first_turn: Turn,
@@ -220,15 +220,17 @@ impl JobBlock {
         Turn::new(self.first_turn.get() + self.kept.len() as u64)
     }
 
-    /// Puts the job of a publication behind, with the turn behind the last one's. A small publication is copied; of one that has
-    /// [`SHARED_BYTES`](crate::SHARED_BYTES) or more, header block and payload together, a message is made that all share. Want of memory
-    /// leaves all as it was. Required: the publication can be published, and there is a turn ([`JobBlock::next_turn`]).
+    /// Puts the job of a publication behind, with the turn behind the last one's. Of one that is wanted and has
+    /// [`SHARED_BYTES`](crate::SHARED_BYTES) or more, header block and payload together, a message is made that all share; any other is
+    /// copied. Want of memory leaves all as it was. Required: the publication can be published, and there is a turn
+    /// ([`JobBlock::next_turn`]).
     #[inline(never)]
     pub fn push(
         &mut self,
         publication: &PublicationParts<'_>,
         origin: Origin,
         queues: QueueNames,
+        is_wanted: bool,
     ) -> Result<(), AllocError>
         requires valid { IsPublishable (content_by publication.now) }
         requires turn { turn_behind self.old ≤ MAX_COUNTER }
@@ -241,7 +243,7 @@ impl JobBlock {
         self.kept.reserve(1)?;
         let goes_on = self.goes_on_with(&origin, publication, &queues);
         let subject = last_subject(&self.text, self.kept.as_slice(), publication.subject);
-        let message = keep(&mut self.text, subject, publication)?;
+        let message = keep(&mut self.text, subject, publication, is_wanted)?;
         put_job(&mut self.kept, origin, queues, goes_on, message);
         Ok(())
     }
@@ -270,7 +272,8 @@ impl JobBlock {
         self.kept.reserve(1)?;
         let goes_on = !self.kept.is_empty();
         let subject = last_span(self.kept.as_slice());
-        let message = keep(&mut self.text, subject, publication)?;
+        // it is short, so whether it is wanted makes no difference
+        let message = keep(&mut self.text, subject, publication, false)?;
         put_job(&mut self.kept, origin, queues, goes_on, message);
         Ok(())
     }

@@ -1,7 +1,8 @@
 //! How the jobs of a block are kept.
 
-ghost use Rattle.std.specs.Prelude.{◌≡◌, ◌+◌, ℕ, List, true, IfOk, IfSome, OnErr};
+ghost use Rattle.std.specs.Prelude.{◌≡◌, ◌&&◌, ◌+◌, ℕ, List, true, is_some, length, nat_le, IfOk, IfSome, OnErr};
 ghost use Rattle.std.specs.Option.{option_copied};
+ghost use Rattle.subj.specs.Messages.{body_of};
 ghost use Rattle.job_block.specs.Publications.{IsPublishable, content_by};
 ghost use Rattle.job_block.specs.Spans.{AreSpans, Extends, IsPart};
 ghost use Rattle.job_block.specs.Kept.{AreKept, IsKeptAs, IsKeptMessage, IsOfLast, job_in, message_in, shared_in};
@@ -12,14 +13,14 @@ use crate::spans::{Span, Spans, put};
 use std::alloc::{AllocError, Global};
 use subj::{ConnId, LentSubject, Message, PubId, QueueName, QueueNames};
 
-/// From how many bytes on header block and payload of a publication are not copied into the text of a block: they stand apart, and all
-/// who keep the message share them. (Profile.)
+/// From how many bytes on header block and payload of a publication that is wanted are not copied into the text of a block: they stand
+/// apart, and all who keep the message share them. (Profile.)
 pub const SHARED_BYTES: usize = 4_096;
 
 /// What a job publishes.
 #[derive(Drop)]
 pub(crate) enum KeptMessage {
-    /// It is small, and its parts stand in the text of the block.
+    /// Its parts stand in the text of the block: it is small, or nobody is known to want it.
     InText(Spans),
     /// It stands apart.
     Shared(Message),
@@ -183,22 +184,26 @@ pub(crate) fn last_subject(text: &[u8], kept: &[KeptJob], subject: &[u8]) -> Opt
 }
 
 /// Keeps the message that has these parts: puts them behind the text, where its subject may stand already, or makes a message that
-/// stands apart. Want of memory leaves the text as it was. Required: it can be published.
+/// stands apart, where it is large and wanted. Want of memory leaves the text as it was. Required: it can be published.
 #[inline(always)]
 pub(crate) fn keep(
     text: &mut Vec<u8>,
     subject: Option<Span>,
     publication: &PublicationParts<'_>,
+    is_wanted: bool,
 ) -> Result<KeptMessage, AllocError>
     requires subject { IfSome subject (λ span.
         IsPart text.old.items span publication.now.subject.now) }
     requires valid { IsPublishable (content_by publication.now) }
     ensures message { IfOk result (λ message.
         IsKeptAs text.new.items message (content_by publication.now)) }
+    ensures apart { IfOk result (λ message.
+        is_some (shared_in message)
+        ≡ (is_wanted && nat_le SHARED_BYTES (length (body_of (content_by publication.now))))) }
     ensures text { Extends text.old.items text.new.items }
     ensures err { OnErr result (text.new.items ≡ text.old.items) }
 {
-    if publication.is_large() {
+    if is_wanted && publication.is_large() {
         let message = publication.to_message(*text.allocator())?;
         return Ok(KeptMessage::Shared(message));
     }

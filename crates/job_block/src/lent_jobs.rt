@@ -1,12 +1,11 @@
 //! A job as it stands in a block.
 
-ghost use Rattle.std.specs.Prelude.{◌≡◌, ◌≤◌, is_some, length, true, IfOk, IfSome};
+ghost use Rattle.std.specs.Prelude.{◌≡◌, IfOk, IfSome};
 ghost use Rattle.std.specs.Option.{option_copied};
-ghost use Rattle.subj.specs.Messages.{body_of};
 ghost use Rattle.job_block.specs.Publications.{IsPublishable, content_by};
 ghost use Rattle.job_block.specs.Kept.{IsKeptMessage, job_in};
 
-use crate::kept::{KeptJob, SHARED_BYTES};
+use crate::kept::KeptJob;
 use crate::publications::PublicationParts;
 use std::alloc::{AllocError, Global};
 use std::marker::Model;
@@ -92,11 +91,10 @@ impl<'a> LentJob<'a> {
         self.kept.message.parts(self.text)
     }
 
-    /// Its message, where that stands apart: where header block and payload have [`SHARED_BYTES`] or more together, and also where the
-    /// job came with its message. Copies of the message share it.
+    /// Its message, where that stands apart: where it was put so ([`JobBlock::push`](crate::JobBlock::push)), and where the job came with
+    /// its message. Copies of the message share it.
     pub fn shared(&self) -> Option<&'a Message>
-        ensures same { IfSome (option_copied result) (λ message. message ≡ self.now.message) }
-        ensures large { SHARED_BYTES ≤ length (body_of self.now.message) → is_some result ≡ true }
+        ensures { IfSome (option_copied result) (λ message. message ≡ self.now.message) }
     {
         self.kept.message.shared()
     }

@@ -26,7 +26,7 @@ use crate::node_name::NodeName;
 use crate::shard_state::ShardState;
 use claim_cells::{Cells, HubSeat};
 use hub_core::{CollectResult, HubFault, PublishPlan};
-use job_block::{JobBlock, LentPub, Origin};
+use job_block::{JobBlock, LentPub, Origin, SHARED_BYTES};
 use job_lane::Run;
 use node_parts::{HubWithSessions, Issued, Received, is_message};
 use publication_runs::LentRun;
@@ -36,7 +36,9 @@ use std::alloc::{AllocError, Global};
 use std::marker::{Model, PhantomData};
 use std::sync::Wait;
 use sub_table::SubTable;
-use subj::{ConnId, Failure, Finished, Job, MAX_COUNTER, Pub, QueueNames, ServerIdentity, Turn};
+use subj::{
+    ConnId, Failure, Finished, Job, LentSubject, MAX_COUNTER, Pub, QueueNames, ServerIdentity, Turn,
+};
 
 /// The hub's ends of all lanes, and the jobs that not all of them have yet, in order: a run that is handed
 /// out, and behind it those that are not made into a run yet.
@@ -122,14 +124,15 @@ fn begin_at(block: &mut JobBlock, turn: Turn)
     }
 }
 
-/// Puts the job of a publication that is lent behind the block's. Want of memory leaves all as it was. Required: there is a turn, and, where it
-/// is told that a run goes on, the last job is like it.
+/// Puts the job of a publication that is lent behind the block's, which somebody wants, as far as is known, or nobody. Want of memory leaves all as
+/// it was. Required: there is a turn, and, where it is told that a run goes on, the last job is like it.
 #[inline(always)]
 fn put_lent(
     block: &mut JobBlock,
     origin: Origin,
     publication: &LentPub<'_>,
     queues: QueueNames,
+    is_wanted: bool,
     goes_on: bool,
 ) -> Result<(), AllocError>
     requires last { goes_on ≡ true → 0 < length block.old.jobs
@@ -145,7 +148,7 @@ fn put_lent(
     if goes_on && parts.is_short() {
         block.push_next(&parts, origin, queues)
     } else {
-        block.push(&parts, origin, queues)
+        block.push(&parts, origin, queues, is_wanted)
     }
 }
 
@@ -188,14 +191,16 @@ impl<N: NodeName> Outlet<N> {
         self.unsent.push_message(message, origin, queues)
     }
 
-    /// Hands the next job to the shards: that of a publication that is lent, with these queue names, which are shared. Want of memory leaves
-    /// all as it was. Required: where it is told that a run goes on, the last job is like it.
+    /// Hands the next job to the shards: that of a publication that is lent, with these queue names, which are shared. A message is made of a
+    /// large one that is wanted. Want of memory leaves all as it was. Required: where it is told that a run goes on, the last job is like it.
+    #[inline(always)]
     fn add_lent(
         &mut self,
         turn: Turn,
         origin: Origin,
         publication: &LentPub<'_>,
         queues: QueueNames,
+        is_wanted: bool,
         goes_on: bool,
     ) -> Result<(), AllocError>
         requires turn { turn ≡ length self.old + 1 }
@@ -207,7 +212,14 @@ impl<N: NodeName> Outlet<N> {
     {
         let _numbered = self.unsent.first_turn();
         begin_at(&mut self.unsent, turn);
-        put_lent(&mut self.unsent, origin, publication, queues, goes_on)
+        put_lent(
+            &mut self.unsent,
+            origin,
+            publication,
+            queues,
+            is_wanted,
+            goes_on,
+        )
     }
 
     /// Pushes what is not pushed yet, oldest first, as far as lanes have room and there is memory.
@@ -439,17 +451,27 @@ impl<N: NodeName> HubState<N> {
         requires { cells.now ≡ N.race }
         ensures { IssuesRun N.race.shards conn result run.old run.new self.old self.new }
     {
-        if run.peek().is_none() {
+        let Some(first) = run.peek() else {
             return 0;
-        }
+        };
+        let is_large = first.publication.payload().len() >= SHARED_BYTES;
         match self.side.hub().local_names(&run.subject()) {
             None => 0,
-            Some(queues) => self.issue_each(cells, conn, run, &queues),
+            Some(queues) => {
+                let is_wanted = self.is_wanted(&run.subject(), &queues, is_large);
+                self.issue_each(cells, conn, run, &queues, is_wanted)
+            }
         }
     }
 
-    /// Issues publications that are lent, as far as they are given and there are turns and memory. Their jobs have these queue names. Gives
-    /// how many. Required: each owes such a job.
+    /// Whether somebody wants publications on this subject that have these queue names, as far as the hub knows. It is looked up where the first
+    /// is large: no message is made of a small one.
+    fn is_wanted(&self, subject: &LentSubject<'_>, queues: &QueueNames, is_large: bool) -> bool {
+        !is_large || !queues.as_slice().is_empty() || self.side.hub().is_wanted_here(subject)
+    }
+
+    /// Issues publications that are lent, which somebody wants, as far as is known, or nobody, as far as they are given and there are turns and
+    /// memory. Their jobs have these queue names. Gives how many. Required: each owes such a job.
     #[inline(always)]
     fn issue_each(
         &mut self,
@@ -457,6 +479,7 @@ impl<N: NodeName> HubState<N> {
         conn: ConnId,
         run: &mut LentRun<'_>,
         queues: &QueueNames,
+        is_wanted: bool,
     ) -> u64
         requires race { cells.now ≡ N.race }
         requires local { OwesLocalJob self.old.side.server self.old.side.hub run.old.subject
@@ -464,19 +487,19 @@ impl<N: NodeName> HubState<N> {
         ensures { IssuesRun N.race.shards conn result run.old run.new self.old self.new }
     {
         let free = self.side.hub().turns_free(&self.finished);
-        if free == 0 || !self.issue_next(cells, conn, run, queues, false) {
+        if free == 0 || !self.issue_next(cells, conn, run, queues, is_wanted, false) {
             return 0;
         }
         for count in 1..free {
-            if !self.issue_next(cells, conn, run, queues, true) {
+            if !self.issue_next(cells, conn, run, queues, is_wanted, true) {
                 return count;
             }
         }
         free
     }
 
-    /// Issues the next publication that is lent, whose job has these queue names. Whether it did; where not, all is as it was. Required: a
-    /// turn is free, and, where it is told that a run goes on, the last job is like its own.
+    /// Issues the next publication that is lent, which somebody wants, as far as is known, or nobody, and whose job has these queue names. Whether
+    /// it did; where not, all is as it was. Required: a turn is free, and, where it is told that a run goes on, the last job is like its own.
     #[inline(always)]
     fn issue_next(
         &mut self,
@@ -484,6 +507,7 @@ impl<N: NodeName> HubState<N> {
         conn: ConnId,
         run: &mut LentRun<'_>,
         queues: &QueueNames,
+        is_wanted: bool,
         goes_on: bool,
     ) -> bool
         requires race { cells.now ≡ N.race }
@@ -517,9 +541,14 @@ impl<N: NodeName> HubState<N> {
         let Ok(names) = queues.try_clone() else {
             return false;
         };
-        let Ok(()) = self
-            .outlet
-            .add_lent(turn, origin, &ahead.publication, names, goes_on)
+        let Ok(()) = self.outlet.add_lent(
+            turn,
+            origin,
+            &ahead.publication,
+            names,
+            is_wanted,
+            goes_on,
+        )
         else {
             return false;
         };

@@ -499,7 +499,7 @@ fn push_job(block: &mut JobBlock, message: Message, publisher: &str) -> Option<(
         return block.push_message(message, origin, QueueNames::new()).ok();
     }
     let parts = PublicationParts::of(&message);
-    block.push(&parts, origin, QueueNames::new()).ok()
+    block.push(&parts, origin, QueueNames::new(), true).ok()
 }
 
 /// Puts a job on foo behind, of no publisher, or of the one before a colon. The rest of the word is its payload.

@@ -73,7 +73,7 @@ fn put_job(alloc: Global, block: &mut JobBlock, turn: Turn) -> Option<()>
     let put = if echo {
         block.push_message(message, origin, queues)
     } else {
-        block.push(&PublicationParts::of(&message), origin, queues)
+        block.push(&PublicationParts::of(&message), origin, queues, true)
     };
     put.ok()
 }
