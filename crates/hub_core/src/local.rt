@@ -1,6 +1,6 @@
 //! A local publication: it owes the server's own shards a job, and nothing else.
 
-ghost use Rattle.std.specs.Prelude.{◌≡◌, ◌&&◌, true, [], IfSome};
+ghost use Rattle.std.specs.Prelude.{◌≡◌, ◌&&◌, true, false, [], IfSome};
 ghost use Rattle.interest.specs.Matches.{has_plain_match};
 ghost use Rattle.hub_core.specs.Audiences.{IsAudience};
 ghost use Rattle.hub_core.specs.Choice.{is_eligible as eligible};
@@ -11,6 +11,9 @@ use crate::hub::Hub;
 use crate::peers::Peer;
 use crate::publishing::is_eligible;
 use subj::{LentSubject, QueueNames, ServerIdentity};
+
+/// Among how many keys a subject is looked for at little cost. (Profile.)
+const FEW_KEYS: usize = 64;
 
 /// Whether the peer is eligible, and has a plain key that matches the subject.
 fn wants_plain(
@@ -62,11 +65,13 @@ impl Hub {
         !self.is_named(subject) && !is_wanted_elsewhere(&self.server, &self.peers, subject)
     }
 
-    /// Whether some subscription of the server's own clients wants the subject, one without a queue name.
-    pub fn is_wanted_here(&self, subject: &LentSubject<'_>) -> bool
-        ensures { result ≡ has_plain_match subject.now self.now.state.counts }
+    /// Whether some subscription of the server's own clients, one without a queue name, may want the subject: it does, or there are more than
+    /// [`FEW_KEYS`] keys, which are not searched for it.
+    pub fn may_be_wanted_here(&self, subject: &LentSubject<'_>) -> bool
+        ensures { result ≡ false → has_plain_match subject.now self.now.state.counts ≡ false }
     {
-        self.counts.counts().has_plain(subject)
+        let counts = self.counts.counts();
+        counts.len() > FEW_KEYS || counts.has_plain(subject)
     }
 
     /// The queue names of a publication on this subject, where it owes the server's own shards a job with just these, and nothing else:

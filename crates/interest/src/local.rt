@@ -1,6 +1,6 @@
 //! How many subscriptions of each key are open.
 
-ghost use Rattle.std.specs.Prelude.{◌≡◌, ◌*◌, ◌^◌, ◌<◌, ◌≤◌, [], ◌++◌, None, Some, true, false, slice_get, MatchResult, IfOk, OnErr};
+ghost use Rattle.std.specs.Prelude.{◌≡◌, ◌*◌, ◌^◌, ◌<◌, ◌≤◌, [], ◌++◌, None, Some, true, false, length, slice_get, MatchResult, IfOk, OnErr};
 ghost use Rattle.std.specs.List.{list_any};
 ghost use Rattle.std.specs.BTreeMap.{insert_entry};
 ghost use Rattle.std.specs.List.Sorted.{IsStrictlySortedBy};
@@ -309,6 +309,13 @@ impl Local {
         ensures { AreGathered (names_of subject.now self.now names.old) names.new result }
     {
         names_in(&self.entries, subject, names)
+    }
+
+    /// How many keys have an open subscription.
+    pub fn len(&self) -> usize
+        ensures { result ≡ length self.now }
+    {
+        self.entries.len()
     }
 
     /// The keys that have an open subscription, each with the number of them, in the order of

@@ -464,10 +464,10 @@ impl<N: NodeName> HubState<N> {
         }
     }
 
-    /// Whether somebody wants publications on this subject that have these queue names, as far as the hub knows. It is looked up where the first
-    /// is large: no message is made of a small one.
+    /// Whether somebody may want publications on this subject that have these queue names, as far as the hub knows. It is looked up where the
+    /// first is large: no message is made of a small one.
     fn is_wanted(&self, subject: &LentSubject<'_>, queues: &QueueNames, is_large: bool) -> bool {
-        !is_large || !queues.as_slice().is_empty() || self.side.hub().is_wanted_here(subject)
+        !is_large || !queues.as_slice().is_empty() || self.side.hub().may_be_wanted_here(subject)
     }
 
     /// Issues publications that are lent, which somebody wants, as far as is known, or nobody, as far as they are given and there are turns and

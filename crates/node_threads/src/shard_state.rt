@@ -15,6 +15,7 @@ ghost use Rattle.shard_core.specs.declared.faults.ShardFault.TheVariants.{NoJob}
 ghost use Rattle.node_threads.specs.Tapes.{Grows, Tells, begin_entry, claim_entry, drop_entry, end_entry, refused_entry};
 ghost use Rattle.node_threads.specs.Turns.{ClaimsOne, DeliversFirst, HasEnded, HasNone, HasTried, HasWorked, MayBegin, MayClaim, Turns, Drops, HasDropped, WorksFirst};
 
+use crate::gates::{Gate, GatedCells, tell};
 use crate::node_name::NodeName;
 use crate::shard_entries::{Placements, ShardEntry, ShardEvent, ShardTold, Tape};
 use crate::turned::Turned;
@@ -24,7 +25,7 @@ use job_block::JobSlice;
 use job_lane::LaneOut;
 use outbox::Entry;
 use shard_core::{
-    Candidate, Claims, Closed, DirtyConns, Placed, Shard, ShardFault, Subscribed, claims_are_whole,
+    Candidate, Closed, DirtyConns, Placed, Shard, ShardFault, Subscribed, claims_are_whole,
     runs_are_worked,
 };
 use std::alloc::{AllocError, Global};
@@ -50,7 +51,7 @@ pub struct ShardState<T: SubTable, N: NodeName> {
     of: PhantomData<N>,
 }
 
-/// By hand, so that it is one call: a derived drop is spelt out, and proved, wherever one goes out of scope.
+/// One call, also for crates above: `docs/PROVING.md`, "What a proof costs".
 impl<T: SubTable, N: NodeName> Drop for ShardState<T, N> {
     fn drop(self) {
         let ShardState {
@@ -79,71 +80,6 @@ impl<T: SubTable, N: NodeName> Model for ShardState<T, N> {
         × (s.waits ≡ true → is_some s.lane.hand ≡ true)
         × (s.seat.race ≡ N.race)
         × (slice_get N.lanes (s.seat.part.shard - 1) ≡ Some s.lane.lane) };
-}
-
-/// Is told of each candidate, before its claim. With it a test holds shards in mid-turn. (Profile.)
-pub trait Gate: Sync {
-    /// A shard, counted from 1, has a candidate for the queue name of this index, in this turn. Only that
-    /// shard's lock is held.
-    fn hold(&self, shard: u64, turn: Turn, index: u64);
-}
-
-/// A gate that holds nothing.
-#[derive(Clone, Copy)]
-pub struct Open;
-
-impl Gate for Open {
-    fn hold(&self, _shard: u64, _turn: Turn, _index: u64) {}
-}
-
-/// Tells the gate of a candidate for the queue name of this index, in this turn of the seat's shard. Required: its claim is
-/// still to come.
-fn tell<G: Gate>(gate: &G, seat: &ShardSeat, turn: Turn, index: u64)
-    requires { seat.now.part.next ≤ index }
-{
-    gate.hold(seat.shard(), turn, index);
-}
-
-/// The turn of the seat's shard. Required: the claim of this index is still to come in it.
-fn turn_to_claim(seat: &ShardSeat, _index: u64) -> Option<Turn>
-    requires { seat.now.part.next ≤ _index }
-{
-    seat.turn()
-}
-
-/// The race, with a gate that is told of each candidate before its claim.
-#[derive(Drop)]
-struct GatedCells<'a, G: Gate> {
-    cells: &'a Cells,
-    gate: &'a G,
-}
-
-impl<'a, G: Gate> Claims<ShardSeat> for GatedCells<'a, G> {
-    ghost use Rattle.std.specs.Prelude.{◌≡◌};
-    ghost use Rattle.node_threads.specs.Turns.{SeatKept, claim_part, seat_kept};
-
-    ghost Fixed = { SeatKept };
-
-    ghost fixed = { seat_kept };
-
-    ghost seats = { λ claims seat. seat.race ≡ claims.cells.now };
-
-    ghost part = { λ seat. claim_part seat.part };
-
-    fn is_lost(&self, seat: &mut ShardSeat) -> bool {
-        self.cells.is_lost(seat, 0)
-    }
-
-    fn claim(&self, seat: &mut ShardSeat) -> bool {
-        if let Some(turn) = turn_to_claim(seat, 0) {
-            self.gate.hold(seat.shard(), turn, 0);
-        }
-        self.cells.claim(seat, 0)
-    }
-
-    fn finish(&self, seat: &mut ShardSeat) {
-        self.cells.finish(seat);
-    }
 }
 
 /// Delivers as many of these jobs at once as it can, from the first on and at most so many. Gives how
