@@ -50,13 +50,25 @@ pub(crate) fn is_object(line: &[u8]) -> bool
 ///
 /// Seen as the names of the servers, in the order in which they were named, and the publications, subscriptions and placements. The place
 /// of a server is that of its name.
-#[derive(Drop)]
 pub struct Log {
     alloc: Global,
     names: Vec<NodeId>,
     publications: Vec<Publication>,
     lives: Vec<Life>,
     placements: Vec<Placement>,
+}
+
+/// One call, also for crates above: `docs/PROVING.md`, "What a proof costs".
+impl Drop for Log {
+    fn drop(self) {
+        let Log {
+            alloc: _,
+            names: _,
+            publications: _,
+            lives: _,
+            placements: _,
+        } = self;
+    }
 }
 
 impl Model for Log {

@@ -43,12 +43,22 @@ use wire_cut::{Cutter, FeedFault, FillFault, Piece, Source};
 /// items ask.
 ///
 /// Seen as the list of the asks, and the options.
-#[derive(Drop)]
 pub struct OpenAsks {
     options: Options,
     /// What is asked before the item's own, where that is asked too.
     confirmation: Option<ClientAction>,
     own: Option<ClientAction>,
+}
+
+/// One call, also for crates above: `docs/PROVING.md`, "What a proof costs".
+impl Drop for OpenAsks {
+    fn drop(self) {
+        let OpenAsks {
+            options: _,
+            confirmation: _,
+            own: _,
+        } = self;
+    }
 }
 
 impl Model for OpenAsks {
@@ -241,7 +251,6 @@ impl OpenAsks {
 
 /// Reads the items of a client's stream, each of which asks for something. An item is read only once there is memory
 /// for it, so none is lost.
-#[derive(Drop)]
 pub struct ItemReader {
     alloc: Global,
     cutter: Cutter,
@@ -249,6 +258,19 @@ pub struct ItemReader {
     awaited: Awaited,
     /// Whether nothing is read any more.
     ended: bool,
+}
+
+/// One call, also for crates above: `docs/PROVING.md`, "What a proof costs".
+impl Drop for ItemReader {
+    fn drop(self) {
+        let ItemReader {
+            alloc: _,
+            cutter: _,
+            texts: _,
+            awaited: _,
+            ended: _,
+        } = self;
+    }
 }
 
 /// What a look at the bytes has found.
@@ -642,10 +664,19 @@ impl ItemReader {
 /// of a refused line or payload the client is told, and a closing refusal shuts the connection. What
 /// stands to be asked is a function of all bytes and of all answers, whatever parts the bytes come in.
 /// (NATS documentation, "Client Protocol"; the order is this project's profile.)
-#[derive(Drop)]
 pub struct Conn {
     reader: ItemReader,
     open_asks: OpenAsks,
+}
+
+/// One call, also for crates above: `docs/PROVING.md`, "What a proof costs".
+impl Drop for Conn {
+    fn drop(self) {
+        let Conn {
+            reader: _,
+            open_asks: _,
+        } = self;
+    }
 }
 
 impl Model for Conn {

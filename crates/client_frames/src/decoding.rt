@@ -214,7 +214,6 @@ const BLOCK: usize = 2_048;
 /// neither judged nor copied again.
 ///
 /// Nothing is seen of it but what it copies.
-#[derive(Drop)]
 pub struct SharedTexts {
     pub(crate) alloc: Global,
     block: BytesMut,
@@ -222,6 +221,19 @@ pub struct SharedTexts {
     /// Whether the subject that was read last was the one that is kept.
     is_again: bool,
     last_line: LastLine,
+}
+
+/// One call, also for crates above: `docs/PROVING.md`, "What a proof costs".
+impl Drop for SharedTexts {
+    fn drop(self) {
+        let SharedTexts {
+            alloc: _,
+            block: _,
+            last_subject: _,
+            is_again: _,
+            last_line: _,
+        } = self;
+    }
 }
 
 impl Model for SharedTexts {

@@ -17,9 +17,15 @@ struct ServerParts {
 }
 
 /// What a server tells all its clients of itself. A copy shares all of it, behind one count, and takes no memory.
-#[derive(Drop)]
 pub struct ServerInfo {
     shared: Arc<ServerParts, Global>,
+}
+
+/// One call, also for crates above: `docs/PROVING.md`, "What a proof costs".
+impl Drop for ServerInfo {
+    fn drop(self) {
+        let ServerInfo { shared: _ } = self;
+    }
 }
 
 impl Model for ServerInfo {

@@ -73,10 +73,16 @@ fn plan_at<T: SubTable, R: Race>(
 }
 
 /// The servers that are up, each at its place.
-#[derive(Drop)]
 pub(crate) struct Nodes<T: SubTable, R: Race> {
     alloc: Global,
     slots: Vec<Option<Node<T, R>>>,
+}
+
+/// One call, also for crates above: `docs/PROVING.md`, "What a proof costs".
+impl<T: SubTable, R: Race> Drop for Nodes<T, R> {
+    fn drop(self) {
+        let Nodes { alloc: _, slots: _ } = self;
+    }
 }
 
 impl<T: SubTable, R: Race> Model for Nodes<T, R> {

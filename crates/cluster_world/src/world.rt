@@ -45,7 +45,6 @@ use world_law::{
 /// Seen as the cluster and its world: the servers that are up, and the lists of what was published,
 /// subscribed, placed and sent. Some run of the exact cluster ends in it; so the headline holds of its lists,
 /// whoever made the value and whatever was done with it.
-#[derive(Drop)]
 pub struct World<T: SubTable, R: Race> {
     alloc: Global,
     /// The names of the servers and the number of shards, as a server's at the first place.
@@ -53,6 +52,19 @@ pub struct World<T: SubTable, R: Race> {
     step: u64,
     nodes: Nodes<T, R>,
     lists: Lists,
+}
+
+/// One call, also for crates above: `docs/PROVING.md`, "What a proof costs".
+impl<T: SubTable, R: Race> Drop for World<T, R> {
+    fn drop(self) {
+        let World {
+            alloc: _,
+            server: _,
+            step: _,
+            nodes: _,
+            lists: _,
+        } = self;
+    }
 }
 
 impl<T: SubTable, R: Race> Model for World<T, R> {

@@ -77,7 +77,6 @@ struct Rest {
 
 /// What the servers of a process tell of: those events that its filter lets through, each a line on standard error. Any thread may tell,
 /// and waits for nothing but a lock; what standard error does not take in time is lost, and counted.
-#[derive(Drop)]
 pub struct EventLog {
     filter: LevelFilter,
     start: Option<Instant>,
@@ -86,6 +85,19 @@ pub struct EventLog {
     has_more: Condvar,
     /// Tells the end that all is written.
     has_ended: Condvar,
+}
+
+/// One call, also for crates above: `docs/PROVING.md`, "What a proof costs".
+impl Drop for EventLog {
+    fn drop(self) {
+        let EventLog {
+            filter: _,
+            start: _,
+            state: _,
+            has_more: _,
+            has_ended: _,
+        } = self;
+    }
 }
 
 /// Milliseconds since 1970, 0 where the clock cannot be read.

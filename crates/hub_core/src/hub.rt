@@ -45,7 +45,6 @@ use subj::{
 /// what it knows of each server of the cluster, by place. Each call is the hub's part of a server's step: it is refused
 /// by the first cause, or does what the step says; want of memory comes only where there is no cause,
 /// and leaves all as it was.
-#[derive(Drop)]
 pub struct Hub {
     pub(crate) alloc: Global,
     pub(crate) server: ServerIdentity,
@@ -60,6 +59,24 @@ pub struct Hub {
     /// The last subject that was published on and is not in mind. It is written where nothing else may change, and decides
     /// nothing but what [`Hub::learn`] keeps in mind.
     pub(crate) asked: Cell<Option<Asked>>,
+}
+
+/// One call, also for crates above: `docs/PROVING.md`, "What a proof costs".
+impl Drop for Hub {
+    fn drop(self) {
+        let Hub {
+            alloc: _,
+            server: _,
+            issued: _,
+            published: _,
+            changed: _,
+            draining: _,
+            counts: _,
+            peers: _,
+            memo: _,
+            asked: _,
+        } = self;
+    }
 }
 
 impl Model for Hub {

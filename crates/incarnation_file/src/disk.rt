@@ -238,7 +238,6 @@ pub enum Failing {
 }
 
 /// A disk in memory, with the file of a name. A new file takes the name only once it is synced.
-#[derive(Drop)]
 pub struct MemoryDisk {
     alloc: Global,
     /// The file that has the name.
@@ -254,6 +253,22 @@ pub struct MemoryDisk {
     failing: Option<(u64, Failing)>,
     /// How many renames the next end of a life takes back.
     lost: usize,
+}
+
+/// One call, also for crates above: `docs/PROVING.md`, "What a proof costs".
+impl Drop for MemoryDisk {
+    fn drop(self) {
+        let MemoryDisk {
+            alloc: _,
+            named: _,
+            side: _,
+            side_synced: _,
+            past: _,
+            recent: _,
+            failing: _,
+            lost: _,
+        } = self;
+    }
 }
 
 impl MemoryDisk {

@@ -98,13 +98,23 @@ fn weight_among(entries: &[(Key, u64)], subject: &LentSubject<'_>, name: &QueueN
 /// Seen as the list of the keys with an open subscription, each with the number of them, in the order
 /// of [`Key::order`]. It has at most [`MAX_KEYS`] keys, at most [`MAX_WEIGHT`] open subscriptions of
 /// each, and its keys count at most [`SUBSCRIPTION_BYTES`] together by [`Key::cost`]. (Profile.)
-#[derive(Drop)]
 pub struct Local {
     pub(crate) alloc: Global,
     /// It has taken the memory for [`MAX_KEYS`] keys when it was made.
     pub(crate) entries: Vec<(Key, u64)>,
     /// What the keys count together.
     pub(crate) bytes: u64,
+}
+
+/// One call, also for crates above: `docs/PROVING.md`, "What a proof costs".
+impl Drop for Local {
+    fn drop(self) {
+        let Local {
+            alloc: _,
+            entries: _,
+            bytes: _,
+        } = self;
+    }
 }
 
 impl Model for Local {

@@ -111,10 +111,16 @@ fn is_as_counted(weighted: &WeightedKey, entry: &(Key, u64)) -> bool
 /// of [`Key::order`], and the number of the last change that they stand for. (Profile.)
 ///
 /// Seen as these. There are at most [`MAX_KEYS`] keys.
-#[derive(Drop)]
 pub struct View {
     mark: u64,
     keys: Vec<WeightedKey>,
+}
+
+/// One call, also for crates above: `docs/PROVING.md`, "What a proof costs".
+impl Drop for View {
+    fn drop(self) {
+        let View { mark: _, keys: _ } = self;
+    }
 }
 
 impl Model for View {

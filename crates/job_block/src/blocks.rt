@@ -101,12 +101,22 @@ fn with_room<T: Drop>(alloc: Global, room: usize) -> Vec<T>
 /// text. What stands apart is not counted, nor are queue names. (Profile.)
 ///
 /// [`SHARED_BYTES`]: crate::SHARED_BYTES
-#[derive(Drop)]
 pub struct JobBlock {
     /// The bytes of the messages that do not stand apart.
     text: Vec<u8>,
     kept: Vec<KeptJob>,
     first_turn: Turn,
+}
+
+/// One call, also for crates above: `docs/PROVING.md`, "What a proof costs".
+impl Drop for JobBlock {
+    fn drop(self) {
+        let JobBlock {
+            text: _,
+            kept: _,
+            first_turn: _,
+        } = self;
+    }
 }
 
 impl Model for JobBlock {

@@ -21,11 +21,21 @@ use toml::Table;
 ///
 /// Seen as these. There are 1 to [`subj::MAX_SHARDS`] shards and 1 to [`subj::MAX_NODES`] servers, in strictly rising order of the bytes
 /// of their names. (Profile.)
-#[derive(Drop)]
 pub struct MeshFile {
     shards: u64,
     secret_file: Option<String>,
     servers: Vec<MeshServer>,
+}
+
+/// One call, also for crates above: `docs/PROVING.md`, "What a proof costs".
+impl Drop for MeshFile {
+    fn drop(self) {
+        let MeshFile {
+            shards: _,
+            secret_file: _,
+            servers: _,
+        } = self;
+    }
 }
 
 impl Model for MeshFile {

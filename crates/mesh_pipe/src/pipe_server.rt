@@ -408,13 +408,25 @@ pub enum Outcome {
 }
 
 /// The server of a pipe with its one connection, over any race, and what is to be written to the client.
-#[derive(Drop)]
 pub struct PipeServer<R: Race> {
     alloc: Global,
     node: PipeNode<R>,
     conn: ConnId,
     confirmation: Confirmation,
     output: Vec<u8>,
+}
+
+/// One call, also for crates above: `docs/PROVING.md`, "What a proof costs".
+impl<R: Race> Drop for PipeServer<R> {
+    fn drop(self) {
+        let PipeServer {
+            alloc: _,
+            node: _,
+            conn: _,
+            confirmation: _,
+            output: _,
+        } = self;
+    }
 }
 
 impl<R: Race> PipeServer<R> {

@@ -58,12 +58,21 @@ struct BoundServer {
 }
 
 /// What the threads of a process share while one of them runs.
-#[derive(Drop)]
 struct Shared {
     /// Where other servers are reached, and whence they come.
     addresses: PeerAddresses,
     /// When the servers of the process stop.
     shutdown: Shutdown,
+}
+
+/// One call, also for crates above: `docs/PROVING.md`, "What a proof costs".
+impl Drop for Shared {
+    fn drop(self) {
+        let Shared {
+            addresses: _,
+            shutdown: _,
+        } = self;
+    }
 }
 
 /// A mesh before it runs: its servers, where other servers connect to each, and what they share.

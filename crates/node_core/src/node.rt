@@ -93,7 +93,6 @@ fn of_hub<X>(answer: Result<X, Failure<HubFault>>) -> Result<X, Failure<NodeFaul
 /// step of the server: it is refused by the first cause, or does what the step says; want of memory comes
 /// only where there is no cause. Both leave all as it was. Numbers of connections, shards and sessions
 /// may be any.
-#[derive(Drop)]
 pub struct Node<T: SubTable, R: Race> {
     pub(crate) alloc: Global,
     pub(crate) side: HubWithSessions,
@@ -101,6 +100,19 @@ pub struct Node<T: SubTable, R: Race> {
     pub(crate) lines: Vec<ShardWithJobs<T>>,
     /// Memory for the copies of a job, which the lines get.
     pub(crate) copies: Vec<Job>,
+}
+
+/// One call, also for crates above: `docs/PROVING.md`, "What a proof costs".
+impl<T: SubTable, R: Race> Drop for Node<T, R> {
+    fn drop(self) {
+        let Node {
+            alloc: _,
+            side: _,
+            race: _,
+            lines: _,
+            copies: _,
+        } = self;
+    }
 }
 
 impl<T: SubTable, R: Race> Model for Node<T, R> {

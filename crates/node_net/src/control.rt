@@ -129,11 +129,21 @@ impl ControlLink {
 }
 
 /// The socket where operators connect, and those of them whose line is not whole yet.
-#[derive(Drop)]
 pub struct Control {
     alloc: Global,
     listener: UnixListener,
     links: Vec<ControlLink>,
+}
+
+/// One call, also for crates above: `docs/PROVING.md`, "What a proof costs".
+impl Drop for Control {
+    fn drop(self) {
+        let Control {
+            alloc: _,
+            listener: _,
+            links: _,
+        } = self;
+    }
 }
 
 impl Control {

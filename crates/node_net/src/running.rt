@@ -120,7 +120,6 @@ enum Accepted {
 }
 
 /// What the loop keeps beside the connections.
-#[derive(Drop)]
 struct Rounds {
     start: Instant,
     poll: Poll,
@@ -142,6 +141,27 @@ struct Rounds {
     heard: u64,
     /// Whether the others know that the server has drained.
     has_finished: bool,
+}
+
+/// One call, also for crates above: `docs/PROVING.md`, "What a proof costs".
+impl Drop for Rounds {
+    fn drop(self) {
+        let Rounds {
+            start: _,
+            poll: _,
+            clients: _,
+            routes: _,
+            redials: _,
+            changes: _,
+            ready: _,
+            is_busy: _,
+            has_failed: _,
+            control: _,
+            is_controlled: _,
+            heard: _,
+            has_finished: _,
+        } = self;
+    }
 }
 
 /// The mesh that the server is of.

@@ -81,7 +81,6 @@ fn peer_cause(cause: Option<Cause>) -> PeerCause {
 /// The connections of one server, over any kind of stream: what comes in on them becomes calls of the server,
 /// and what these have put for clients and other servers goes out. Only the thread that has it works the
 /// server's shards. (Profile.)
-#[derive(Drop)]
 pub struct Server<S: Stream, C: ServerCalls> {
     pub(crate) alloc: Global,
     pub(crate) node: C,
@@ -112,6 +111,32 @@ pub struct Server<S: Stream, C: ServerCalls> {
     pub(crate) drain: Drain,
     /// What it knows its peers by, where the mesh has a secret.
     pub(crate) guard: Guard,
+}
+
+/// One call, also for crates above: `docs/PROVING.md`, "What a proof costs".
+impl<S: Stream, C: ServerCalls> Drop for Server<S, C> {
+    fn drop(self) {
+        let Server {
+            alloc: _,
+            node: _,
+            life: _,
+            info: _,
+            words: _,
+            connections: _,
+            peers: _,
+            clients: _,
+            came: _,
+            gone: _,
+            first: _,
+            put: _,
+            dirty_conns: _,
+            unworked: _,
+            taken: _,
+            encoded: _,
+            drain: _,
+            guard: _,
+        } = self;
+    }
 }
 
 impl<S: Stream, C: ServerCalls> Server<S, C> {

@@ -5,11 +5,17 @@ use mio::Waker;
 use std::sync::atomic::{AtomicBool, AtomicU64, Ordering};
 
 /// What one server of a process is told from outside its thread: it is woken, and asked to drain.
-#[derive(Drop)]
 pub struct ServerControl {
     waker: Waker,
     /// How often it was asked to drain.
     asks: AtomicU64,
+}
+
+/// One call, also for crates above: `docs/PROVING.md`, "What a proof costs".
+impl Drop for ServerControl {
+    fn drop(self) {
+        let ServerControl { waker: _, asks: _ } = self;
+    }
 }
 
 impl ServerControl {
@@ -34,7 +40,6 @@ impl ServerControl {
 
 /// What the servers of a process share: how many clients they have taken, how many of these are gone, after
 /// how many all of them stop, how many servers have drained, and what each is told from outside.
-#[derive(Drop)]
 pub struct Shutdown {
     stops_after: Option<u64>,
     /// How long a drain may take, in seconds.
@@ -46,6 +51,22 @@ pub struct Shutdown {
     servers: Vec<ServerControl>,
     /// The place in the cluster of the first of them; the others follow it.
     first_place: usize,
+}
+
+/// One call, also for crates above: `docs/PROVING.md`, "What a proof costs".
+impl Drop for Shutdown {
+    fn drop(self) {
+        let Shutdown {
+            stops_after: _,
+            drain_seconds: _,
+            taken: _,
+            gone: _,
+            drained: _,
+            has_failed: _,
+            servers: _,
+            first_place: _,
+        } = self;
+    }
 }
 
 impl Shutdown {

@@ -106,7 +106,7 @@ pub struct ShardWithJobs<T: SubTable> {
     waiting: VecDeque<Job>,
 }
 
-/// By hand, so that it is one call: a derived drop is spelt out, and proved, wherever one goes out of scope.
+/// One call, also for crates above: `docs/PROVING.md`, "What a proof costs".
 impl<T: SubTable> Drop for ShardWithJobs<T> {
     fn drop(self) {
         let ShardWithJobs {

@@ -109,7 +109,7 @@ pub struct HubWithSessions {
     sessions: Sessions,
 }
 
-/// By hand, so that it is one call: a derived drop is spelt out, and proved, wherever one goes out of scope.
+/// One call, also for crates above: `docs/PROVING.md`, "What a proof costs".
 impl Drop for HubWithSessions {
     fn drop(self) {
         let HubWithSessions {

@@ -289,7 +289,7 @@ pub struct HubState<N: NodeName> {
     of: PhantomData<N>,
 }
 
-/// By hand, so that it is one call: a derived drop is spelt out, and proved, wherever one goes out of scope.
+/// One call, also for crates above: `docs/PROVING.md`, "What a proof costs".
 impl<N: NodeName> Drop for HubState<N> {
     fn drop(self) {
         let HubState {

@@ -92,9 +92,15 @@ impl<E: Drop> Tape<E> {
 /// Deltas, in order.
 ///
 /// Seen as their list.
-#[derive(Drop)]
 pub struct Deltas {
     items: Vec<Delta>,
+}
+
+/// One call, also for crates above: `docs/PROVING.md`, "What a proof costs".
+impl Drop for Deltas {
+    fn drop(self) {
+        let Deltas { items: _ } = self;
+    }
 }
 
 impl Model for Deltas {
@@ -132,9 +138,15 @@ impl Deltas {
 /// Messages that were placed, in order: each with its connection, its bytes, and whether the connection took headers.
 ///
 /// Seen as their list.
-#[derive(Drop)]
 pub struct Placements {
     items: Vec<Placed>,
+}
+
+/// One call, also for crates above: `docs/PROVING.md`, "What a proof costs".
+impl Drop for Placements {
+    fn drop(self) {
+        let Placements { items: _ } = self;
+    }
 }
 
 impl Model for Placements {
@@ -227,7 +239,7 @@ pub enum ShardEvent {
     Collect(Deltas),
 }
 
-/// By hand, so that it is one call: a derived drop is spelt out, and proved, wherever one goes out of scope.
+/// One call, also for crates above: `docs/PROVING.md`, "What a proof costs".
 impl Drop for ShardEvent {
     #[inline(always)]
     fn drop(self) {

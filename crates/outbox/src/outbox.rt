@@ -26,7 +26,6 @@ pub const LAST_LINE_TEXT: usize = LAST_LINE - CR_LF.len();
 /// it takes no memory, and to drop it gives both back.
 ///
 /// Seen as what waits, what will wait once all that was staged is shown, and the two limits.
-#[derive(Drop)]
 pub struct Outbox {
     alloc: Global,
     /// What waits, and behind it what was staged.
@@ -43,6 +42,24 @@ pub struct Outbox {
     last_line: Vec<u8>,
     max_entries: usize,
     max_bytes: usize,
+}
+
+/// One call, also for crates above: `docs/PROVING.md`, "What a proof costs".
+impl Drop for Outbox {
+    fn drop(self) {
+        let Outbox {
+            alloc: _,
+            entries: _,
+            shown: _,
+            shown_bytes: _,
+            bytes: _,
+            shut: _,
+            closing: _,
+            last_line: _,
+            max_entries: _,
+            max_bytes: _,
+        } = self;
+    }
 }
 
 impl Model for Outbox {

@@ -113,9 +113,15 @@ pub const MOST_SECRET: usize = 4_096;
 /// The secret that all servers of a mesh have, and nobody else. It is kept as the block that HMAC makes of it, and nothing prints it.
 ///
 /// Seen as that block.
-#[derive(Drop)]
 pub struct Secret {
     block: [u8; BLOCK],
+}
+
+/// One call, also for crates above: `docs/PROVING.md`, "What a proof costs".
+impl Drop for Secret {
+    fn drop(self) {
+        let Secret { block: _ } = self;
+    }
 }
 
 impl Model for Secret {

@@ -48,8 +48,7 @@ pub(crate) enum LineBody {
     },
 }
 
-/// By hand, so that it is one call: a derived drop is spelt out, and proved, wherever a line goes out
-/// of scope.
+/// One call, also for crates above: `docs/PROVING.md`, "What a proof costs".
 impl Drop for LineBody {
     fn drop(self) {
         match self {

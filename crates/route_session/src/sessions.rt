@@ -67,7 +67,6 @@ pub struct Kept {
 ///
 /// Seen as the server and its sessions. Each call is a step of these: it is refused by the first cause, or
 /// does what the step says. Only [`Sessions::dial`] and [`Sessions::accept`] take memory.
-#[derive(Drop)]
 pub struct Sessions {
     server: ServerIdentity,
     /// How many sessions there were.
@@ -76,6 +75,18 @@ pub struct Sessions {
     dials: u64,
     /// Those that stand, in order of their numbers.
     standing: Vec<Session>,
+}
+
+/// One call, also for crates above: `docs/PROVING.md`, "What a proof costs".
+impl Drop for Sessions {
+    fn drop(self) {
+        let Sessions {
+            server: _,
+            numbers: _,
+            dials: _,
+            standing: _,
+        } = self;
+    }
 }
 
 impl Model for Sessions {

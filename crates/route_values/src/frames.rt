@@ -21,7 +21,6 @@ fn is_number(number: u64, body: &Body) -> bool
 /// the interest change. (Profile.)
 ///
 /// The number is 1 to [`MAX_COUNTER`]; that of a snapshot may be 0.
-#[derive(Drop)]
 pub struct Numbered {
     from: NodeId,
     inc: Incarnation,
@@ -29,6 +28,20 @@ pub struct Numbered {
     to_inc: Incarnation,
     number: u64,
     body: Body,
+}
+
+/// One call, also for crates above: `docs/PROVING.md`, "What a proof costs".
+impl Drop for Numbered {
+    fn drop(self) {
+        let Numbered {
+            from: _,
+            inc: _,
+            to: _,
+            to_inc: _,
+            number: _,
+            body: _,
+        } = self;
+    }
 }
 
 impl Model for Numbered {
@@ -121,7 +134,14 @@ impl Numbered {
     pub fn into_body(self) -> Body
         ensures { result ≡ self.body }
     {
-        let Numbered { body, .. } = self;
+        let Numbered {
+            from: _,
+            inc: _,
+            to: _,
+            to_inc: _,
+            number: _,
+            body,
+        } = self;
         body
     }
 

@@ -15,10 +15,16 @@ use subj::{Key, MAX_SNAPSHOT, MAX_WEIGHT, QueueName};
 /// for one with a queue name. (Profile.)
 ///
 /// Seen as the pair of the key and the weight.
-#[derive(Drop)]
 pub struct WeightedKey {
     key: Key,
     weight: u64,
+}
+
+/// One call, also for crates above: `docs/PROVING.md`, "What a proof costs".
+impl Drop for WeightedKey {
+    fn drop(self) {
+        let WeightedKey { key: _, weight: _ } = self;
+    }
 }
 
 impl Model for WeightedKey {

@@ -517,11 +517,20 @@ fn read_step(alloc: Global, object: &Value) -> Result<Step, Failure<Misfit>>
 ///
 /// Seen as the names of the servers, 1 to [`subj::MAX_NODES`] and all apart, the number of shards of each, 1 to
 /// [`subj::MAX_SHARDS`], and the steps.
-#[derive(Drop)]
 pub struct Script {
     /// The names of the servers and the number of shards, as a server's at the first place.
     server: ServerIdentity,
     steps: Vec<Step>,
+}
+
+/// One call, also for crates above: `docs/PROVING.md`, "What a proof costs".
+impl Drop for Script {
+    fn drop(self) {
+        let Script {
+            server: _,
+            steps: _,
+        } = self;
+    }
 }
 
 impl Model for Script {

@@ -14,11 +14,21 @@ pub const NOTED_EVENTS: usize = 1_024;
 
 /// Events in the order in which they came, and how many more there were for which there was no place or no memory.
 /// Only those that its filter lets through are noted.
-#[derive(Drop)]
 pub struct Events {
     filter: LevelFilter,
     noted: Vec<Event>,
     missed: u64,
+}
+
+/// One call, also for crates above: `docs/PROVING.md`, "What a proof costs".
+impl Drop for Events {
+    fn drop(self) {
+        let Events {
+            filter: _,
+            noted: _,
+            missed: _,
+        } = self;
+    }
 }
 
 impl Events {

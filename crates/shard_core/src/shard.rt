@@ -193,7 +193,6 @@ fn note_members_for<T: SubTable>(job: &Job, openings: &mut Openings<T>)
 /// call. Each call is the shard's step: it is refused by the first cause, or does what the step says; want
 /// of memory comes only where there is no cause. Both leave the state as it was. Every call but
 /// [`Shard::place`] drops a candidate that stands.
-#[derive(Drop)]
 pub struct Shard<T: SubTable> {
     alloc: Global,
     shard: u64,
@@ -224,6 +223,32 @@ pub struct Shard<T: SubTable> {
     tried: Turn,
     /// For which connections something was put.
     dirty_conns: DirtyConns,
+}
+
+/// One call, also for crates above: `docs/PROVING.md`, "What a proof costs".
+impl<T: SubTable> Drop for Shard<T> {
+    fn drop(self) {
+        let Shard {
+            alloc: _,
+            shard: _,
+            shards: _,
+            next_conn: _,
+            opened: _,
+            finished: _,
+            hand: _,
+            next_index: _,
+            conns: _,
+            openings: _,
+            draining: _,
+            chosen: _,
+            buffer: _,
+            tails: _,
+            run: _,
+            claims: _,
+            tried: _,
+            dirty_conns: _,
+        } = self;
+    }
 }
 
 impl<T: SubTable> Model for Shard<T> {

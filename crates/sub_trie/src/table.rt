@@ -57,7 +57,6 @@ fn close_each(opened: &mut Opened, by_sid: &mut BySid, serials: &[u64])
 
 /// A table that finds what a subject matches, what a connection calls by an id, and all of a
 /// connection by what is found, and not by going through what is open.
-#[derive(Drop)]
 pub struct TrieTable {
     alloc: Global,
     opened: Opened,
@@ -68,6 +67,18 @@ pub struct TrieTable {
     ghost owned: { (conn : ℕ)
         → list_at nat_eq by_conn conn ≡ serials_of conn (subs_in_order opened.subs) },
     ghost called: { AreCalled by_sid (subs_in_order opened.subs) },
+}
+
+/// One call, also for crates above: `docs/PROVING.md`, "What a proof costs".
+impl Drop for TrieTable {
+    fn drop(self) {
+        let TrieTable {
+            alloc: _,
+            opened: _,
+            by_conn: _,
+            by_sid: _,
+        } = self;
+    }
 }
 
 impl TrieTable {

@@ -59,10 +59,16 @@ impl Model for NameList {
 /// most [`MAX_QUEUE_NAMES`]; they are counted from 0. (Profile.)
 ///
 /// Seen as the list of the names. A copy shares them, and takes no memory.
-#[derive(Drop)]
 pub struct QueueNames {
     /// None where there are no names.
     names: Option<Arc<NameList, Global>>,
+}
+
+/// One call, also for crates above: `docs/PROVING.md`, "What a proof costs".
+impl Drop for QueueNames {
+    fn drop(self) {
+        let QueueNames { names: _ } = self;
+    }
 }
 
 impl Model for QueueNames {

@@ -38,9 +38,15 @@ impl Model for MessageParts {
 /// payload. (NATS documentation, "Client Protocol": `PUB`, `HPUB`.) A copy shares all of it, behind one count, and takes no memory.
 ///
 /// Header block and payload together have at most [`MAX_PAYLOAD`] bytes. (Profile.)
-#[derive(Drop)]
 pub struct Message {
     shared: Arc<MessageParts, Global>,
+}
+
+/// One call, also for crates above: `docs/PROVING.md`, "What a proof costs".
+impl Drop for Message {
+    fn drop(self) {
+        let Message { shared: _ } = self;
+    }
 }
 
 impl Model for Message {

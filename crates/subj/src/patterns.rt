@@ -21,9 +21,15 @@ use std::marker::Model;
 ///
 /// Seen as its bytes, of which there are 1 to [`MAX_SUBJECT`]. (NATS documentation, "Subject-Based
 /// Messaging"; the length and the bytes are this project's profile.)
-#[derive(Drop)]
 pub struct Pattern {
     text: Vec<u8>,
+}
+
+/// One call, also for crates above: `docs/PROVING.md`, "What a proof costs".
+impl Drop for Pattern {
+    fn drop(self) {
+        let Pattern { text: _ } = self;
+    }
 }
 
 impl Model for Pattern {

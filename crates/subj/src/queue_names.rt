@@ -15,9 +15,15 @@ use std::marker::Model;
 /// Groups".)
 ///
 /// Seen as its bytes, 1 to [`MAX_QUEUE_NAME`] of any but NUL, space, tab, CR and LF. (Profile.)
-#[derive(Drop)]
 pub struct QueueName {
     text: Vec<u8>,
+}
+
+/// One call, also for crates above: `docs/PROVING.md`, "What a proof costs".
+impl Drop for QueueName {
+    fn drop(self) {
+        let QueueName { text: _ } = self;
+    }
 }
 
 impl Model for QueueName {

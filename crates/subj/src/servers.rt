@@ -41,12 +41,23 @@ fn are_apart(names: &[NodeId]) -> bool
 ///
 /// Seen as these. There are 1 to [`MAX_NODES`] names, all apart, and 1 to [`MAX_SHARDS`] shards; places
 /// are counted from 0.
-#[derive(Drop)]
 pub struct ServerIdentity {
     names: Vec<NodeId>,
     me: usize,
     inc: Incarnation,
     shards: u64,
+}
+
+/// One call, also for crates above: `docs/PROVING.md`, "What a proof costs".
+impl Drop for ServerIdentity {
+    fn drop(self) {
+        let ServerIdentity {
+            names: _,
+            me: _,
+            inc: _,
+            shards: _,
+        } = self;
+    }
 }
 
 impl Model for ServerIdentity {

@@ -14,9 +14,15 @@ use std::marker::Model;
 /// What a client calls one of its subscriptions. (NATS documentation, "Client Protocol".)
 ///
 /// Seen as its bytes, 1 to [`MAX_SID`] of any but NUL, space, tab, CR and LF. (Profile.)
-#[derive(Drop)]
 pub struct Sid {
     text: Vec<u8>,
+}
+
+/// One call, also for crates above: `docs/PROVING.md`, "What a proof costs".
+impl Drop for Sid {
+    fn drop(self) {
+        let Sid { text: _ } = self;
+    }
 }
 
 impl Model for Sid {

@@ -16,9 +16,15 @@ use std::marker::Model;
 ///
 /// Seen as its bytes, of which there are 1 to [`MAX_SUBJECT`]. (NATS documentation, "Subject-Based
 /// Messaging"; the length and the bytes are this project's profile.)
-#[derive(Drop)]
 pub struct Subject {
     text: Bytes,
+}
+
+/// One call, also for crates above: `docs/PROVING.md`, "What a proof costs".
+impl Drop for Subject {
+    fn drop(self) {
+        let Subject { text: _ } = self;
+    }
 }
 
 /// The subject that an answer is awaited on.

@@ -57,7 +57,7 @@ pub enum HubEvent {
     },
 }
 
-/// By hand, so that it is one call: a derived drop is spelt out, and proved, wherever one goes out of scope.
+/// One call, also for crates above: `docs/PROVING.md`, "What a proof costs".
 impl Drop for HubEvent {
     #[inline(always)]
     fn drop(self) {

@@ -187,7 +187,7 @@ pub struct ThreadNode<T: SubTable, N: NodeName> {
     ghost all: { vec_len shards ≡ N.race.shards },
 }
 
-/// By hand, so that it is one call: a derived drop is spelt out, and proved, wherever one goes out of scope.
+/// One call, also for crates above: `docs/PROVING.md`, "What a proof costs".
 impl<T: SubTable, N: NodeName> Drop for ThreadNode<T, N> {
     fn drop(self) {
         let ThreadNode {

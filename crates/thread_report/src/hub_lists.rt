@@ -15,11 +15,21 @@ use value_equality::{is_same_frame, is_same_key};
 /// no such list. (Profile.)
 ///
 /// Seen as these lists.
-#[derive(Drop)]
 pub struct HubLists {
     changes: Vec<Change>,
     frames: Vec<Numbered>,
     cut: Vec<usize>,
+}
+
+/// One call, also for crates above: `docs/PROVING.md`, "What a proof costs".
+impl Drop for HubLists {
+    fn drop(self) {
+        let HubLists {
+            changes: _,
+            frames: _,
+            cut: _,
+        } = self;
+    }
 }
 
 impl Model for HubLists {

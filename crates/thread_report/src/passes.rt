@@ -58,13 +58,24 @@ pub struct Call {
 /// ([`Pass::hub_lists`]). What a caller sees of them is what is compared at the end.
 ///
 /// Seen as their list, and how many more it has room for.
-#[derive(Drop)]
 pub struct Pass<N: NodeName> {
     calls: Vec<Call>,
     /// The last answer, where calls are not written down.
     unwritten: Option<CallAnswer>,
     of: PhantomData<N>,
     alloc: Global,
+}
+
+/// One call, also for crates above: `docs/PROVING.md`, "What a proof costs".
+impl<N: NodeName> Drop for Pass<N> {
+    fn drop(self) {
+        let Pass {
+            calls: _,
+            unwritten: _,
+            of: _,
+            alloc: _,
+        } = self;
+    }
 }
 
 impl<N: NodeName> Model for Pass<N> {
@@ -327,7 +338,12 @@ impl<N: NodeName> Pass<N> {
     pub(crate) fn into_calls(self) -> Vec<Call>
         ensures { result.items ≡ self.calls }
     {
-        let Pass { calls, .. } = self;
+        let Pass {
+            calls,
+            unwritten: _,
+            of: _,
+            alloc: _,
+        } = self;
         calls
     }
 }

@@ -12,10 +12,19 @@ use subj::{NodeId, PubId, SubId};
 /// were taken, each list in order. It is empty where the answer has no such list. (Profile.)
 ///
 /// Seen as both lists.
-#[derive(Drop)]
 pub struct ShardLists {
     closed: Vec<SubId>,
     taken: Vec<Entry>,
+}
+
+/// One call, also for crates above: `docs/PROVING.md`, "What a proof costs".
+impl Drop for ShardLists {
+    fn drop(self) {
+        let ShardLists {
+            closed: _,
+            taken: _,
+        } = self;
+    }
 }
 
 impl Model for ShardLists {

@@ -28,7 +28,6 @@ const LF: u8 = b'\n';
 ///
 /// What is fed is kept in one buffer, from which the pieces are lent. They are a function of the
 /// bytes, however these were cut into feeds. Once a fault was told every call answers it again.
-#[derive(Drop)]
 pub struct Cutter {
     window: Window,
     /// No CR LF begins so that it ends within this many unread bytes.
@@ -38,6 +37,21 @@ pub struct Cutter {
     fault: Option<CutFault>,
     line_max: usize,
     payload_max: u64,
+}
+
+/// One call, also for crates above: `docs/PROVING.md`, "What a proof costs".
+impl Drop for Cutter {
+    fn drop(self) {
+        let Cutter {
+            window: _,
+            searched: _,
+            expected: _,
+            after_line: _,
+            fault: _,
+            line_max: _,
+            payload_max: _,
+        } = self;
+    }
 }
 
 impl Model for Cutter {
