@@ -6,7 +6,8 @@ above them; where fewer are ready than there are processors, a check gets severa
 these checks has a tree of its own (`.build/1`, `.build/2` and so on): a copy of the sources, with links to the libraries that are built. What is proved goes
 into `crates/NAME/out`, also where a run was stopped, so the next one goes on from there. Where a crate is refused, what the prover said of it is printed and
 the status is 1.
-Usage: tools/build.py PROGRAM
+Usage: tools/dev build PROGRAM               (or tools/build.py PROGRAM)
+       tools/dev build --unproved PROGRAM    builds it without proofs, by tools/unproved.py, as a file of `.unproved/`
 """
 import concurrent.futures
 import contextlib
@@ -19,6 +20,7 @@ import subprocess
 import sys
 import threading
 
+import unproved
 from progress import Progress
 from repository import TOP, folder_of, libraries_of, lines_of_crates
 
@@ -342,9 +344,21 @@ def build(program):
         sys.exit(f"{said}{program}: refused")
 
 
+def main(words):
+    """Builds the program that the words name. None where they name none."""
+    is_proved = words[:1] != ["--unproved"]
+    programs = words[not is_proved:]
+    if len(programs) != 1 or programs[0] not in lines_of_crates():
+        return None
+    if is_proved:
+        # A request to end stops the checks that run.
+        signal.signal(signal.SIGTERM, lambda _number, _frame: sys.exit(1))
+        build(programs[0])
+    else:
+        unproved.build_here(programs[0])
+    return 0
+
+
 if __name__ == "__main__":
-    # A request to end stops the checks that run.
-    signal.signal(signal.SIGTERM, lambda _number, _frame: sys.exit(1))
-    if len(sys.argv) != 2 or sys.argv[1] not in lines_of_crates():
+    if main(sys.argv[1:]) is None:
         sys.exit(__doc__)
-    build(sys.argv[1])

@@ -1,7 +1,7 @@
 """Breaks lines that are too wide: contract clauses in src/ and lines of specs/ at 100 columns, and those of proofs/ at 120.
 
-Usage: tools/dev columns [CRATE..]            rewrites the files of these crates, or of all
-       tools/dev columns --check [CRATE..]    names each line that is too wide, and writes nothing
+Usage: tools/dev columns CRATE.. | --all      rewrites the files of these crates, or of all
+       tools/dev columns --check [CRATE..]    names each line that is too wide, in these crates or in all, and writes nothing
 
 `rt fmt` breaks none of them. A declaration, a clause or a comment with no line too wide stays as it is, and so does each `use` line, which `rt`
 writes. Nothing changes but white space, and how a comment's words are spread over its lines; a file of which that is not so is not written. The
@@ -236,8 +236,9 @@ def rewrite(path, name, parts):
 def main(words):
     is_check = words[:1] == ["--check"]
     known = list(lines_of_crates())
-    crates = words[is_check:] or known
-    if any(crate not in known for crate in crates):
+    given = words[is_check:]
+    crates = known if given == ([] if is_check else ["--all"]) else given
+    if not crates or any(crate not in known for crate in crates):
         return None
     count = 0
     for crate in crates:

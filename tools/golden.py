@@ -6,7 +6,7 @@ A program plays the files of its `data/` that its `args` names, and prints how m
 differs. A file of cases that `args` does not name is never played: that is told, too. A new case or call changes the numbers in `stdout`.
 
 Proved programs are played (crates/CRATE/out/CRATE, which `rt run` in the crate's folder builds), or by --unproved those that
-`tools/unproved.py CRATE` has built, in minutes. None is built here: where one is missing, or older than a source, nothing is played (status 2).
+`tools/dev build --unproved CRATE` has built, in minutes. None is built here: where one is missing, or older than a source, nothing is played (status 2).
 Whoever changes only files of cases builds a program once and plays them again in seconds.
 """
 import os
