@@ -22,10 +22,11 @@ PLACES = {
     "mesh_script": (880, 360), "node_parts": (480, 408), "node_core": (630, 408), "cluster_world": (790, 408),
     "cluster_law": (340, 456), "node_law": (480, 456), "world_law": (640, 456), "settled_law": (770, 456), "script_form": (900, 456),
     "server_calls": (190, 532), "hub_core": (400, 532), "route_session": (530, 532), "shard_core": (680, 532),
-    "client_calls": (190, 588), "interest": (340, 588), "claim_race": (505, 588), "outbox": (640, 588), "sub_table": (740, 588), "sub_trie": (860, 588),
-    "pick": (420, 644), "pattern_trie": (860, 644),
-    "route_frames": (80, 720), "client_conn": (240, 720), "client_frames": (400, 720), "subj": (640, 720),
-    "route_values": (80, 776), "wire_cut": (400, 776), "line_fields": (540, 776), "list_laws": (760, 776),
+    "client_calls": (190, 588), "interest": (340, 588), "claim_race": (505, 588), "outbox": (640, 588), "sub_table": (756, 588), "sub_trie": (884, 588),
+    "pick": (420, 644), "pattern_trie": (884, 644),
+    "route_frames": (84, 720), "client_conn": (230, 720), "publication_runs": (392, 720), "client_frames": (566, 720), "job_block": (710, 720),
+    "subj": (860, 720),
+    "route_values": (84, 776), "wire_cut": (566, 776), "line_fields": (700, 776), "list_laws": (860, 776),
 }
 
 # Which crate stands on which, of those that carry the design.
@@ -49,10 +50,12 @@ ARROWS = {
     "server_calls": ["client_calls", "hub_core"],
     "client_calls": ["client_conn"],
     "hub_core": ["interest", "pick", "claim_race"],
-    "shard_core": ["outbox", "sub_table"],
+    "shard_core": ["outbox", "sub_table", "job_block"],
     "sub_trie": ["sub_table", "pattern_trie"],
-    "client_conn": ["client_frames"],
-    "client_frames": ["wire_cut", "subj"],
+    "client_conn": ["publication_runs"],
+    "publication_runs": ["client_frames"],
+    "job_block": ["subj"],
+    "client_frames": ["wire_cut"],
     "wire_cut": ["line_fields"],
     "line_fields": ["list_laws"],
     "subj": ["list_laws"],
@@ -63,7 +66,7 @@ BOX = 30
 
 
 def width_of(crate):
-    return 8 * len(crate) + 22
+    return 9.1 * len(crate) + 18
 
 
 def border(crate, other):
@@ -91,24 +94,24 @@ def layers():
                       "Programs stand on threads and sockets, these on servers as values, these on the parts of a node, and all on bytes and frames.")
     for name, words, top, bottom in LAYERS:
         picture.rect(12, top, 1156, bottom - top, fill="band", stroke=None, radius=8)
-        picture.text(982, top + 26, name, size=14, strong=True)
+        picture.text(982, top + 26, name, size=16, strong=True)
         for place, line in enumerate(words):
-            picture.text(982, top + 46 + 17 * place, line, fill="muted", size=12)
-    picture.text(982, 818, "most crates stand on subj", fill="muted", size=12)
+            picture.text(982, top + 47 + 19 * place, line, fill="muted", size=14)
+    picture.text(982, 818, "most crates stand on subj", fill="muted", size=14)
     for crate, others in ARROWS.items():
         for other in others:
             picture.line([border(crate, other), border(other, crate)], arrow=True)
     for crate, (x, top) in PLACES.items():
         picture.rect(x - width_of(crate) / 2, top, width_of(crate), BOX)
-        picture.text(x, top + 20, crate, anchor="middle", code=True)
+        picture.text(x, top + 20, crate, anchor="middle", size=15, code=True)
     return picture.whole()
 
 
 def titled(picture, x, y, width, title, line, height=48):
     """A box with a title, and a line below it."""
     picture.rect(x, y, width, height)
-    picture.text(x + 10, y + 20, title, strong=True)
-    picture.text(x + 10, y + 38, line, fill="muted", size=12)
+    picture.text(x + 10, y + 20, title, size=14, strong=True)
+    picture.text(x + 10, y + 38, line, fill="muted", size=14)
 
 
 def step(picture, x, y, number):
@@ -121,15 +124,15 @@ def lane(picture, x, name, job):
     """A lane from the hub to a shard, with a job in it."""
     picture.line([(x, 280), (x, 300)], stroke="lane", thick=2)
     picture.rect(x - 62, 300, 124, 26, stroke="lane", thick=2, radius=13)
-    picture.text(x, 318, job, fill="lane", anchor="middle", size=12, code=True)
-    picture.text(x + 70, 318, name, fill="muted", size=12)
+    picture.text(x, 318, job, fill="lane", anchor="middle", size=14, code=True)
+    picture.text(x + 70, 318, name, fill="muted", size=14)
     picture.line([(x, 326), (x, 352)], stroke="lane", thick=2, arrow=True)
 
 
 def lock(picture, x, y, width, height, name):
     """What stands under a lock."""
     picture.rect(x, y, width, height, fill="none", stroke="lock", dashed=True, radius=8, thick=1.6)
-    picture.text(x + width - 10, y + 15, name, fill="lock", anchor="end", size=12)
+    picture.text(x + width - 10, y + 15, name, fill="lock", anchor="end", size=14)
 
 
 def shards(picture, lines):
@@ -144,13 +147,13 @@ def first_server(picture):
     titled(picture, 36, 12, 216, "client P", "PUB foo 5, hello", 46)
     picture.line([(144, 58), (144, 106)], arrow=True)
     step(picture, 164, 84, 1)
-    titled(picture, 36, 108, 216, "connection of P", "cut, decoded: a publication")
+    titled(picture, 36, 108, 216, "connection of P", "cut, read: a publication")
     step(picture, 252, 108, 2)
     picture.line([(36, 140), (24, 140), (24, 480), (46, 480)], arrow=True)
     step(picture, 24, 250, 3)
     picture.line([(144, 156), (144, 212)], arrow=True)
     lock(picture, 36, 180, 510, 100, "hub's lock")
-    titled(picture, 52, 214, 216, "Hub", "number 4, turn 9; n2 serves q")
+    titled(picture, 52, 214, 216, "Hub", "number 4, turn 9; q: n2")
     step(picture, 268, 214, 4)
     titled(picture, 322, 214, 208, "frames for n2", "RMSG, number 4, foo | q")
     picture.line([(270, 238), (320, 238)], arrow=True)
@@ -162,20 +165,20 @@ def first_server(picture):
     titled(picture, 48, 456, 216, "outboxes of P and A", "+OK; MSG foo 1 5")
     step(picture, 264, 456, 7)
     picture.line([(156, 430), (156, 454)], arrow=True)
-    titled(picture, 150, 544, 282, "race of n1", "issued 9, finished 9 and 9; no claim", 46)
+    titled(picture, 150, 544, 282, "race of n1", "issued 9, finished 9, 9; no claim", 46)
     picture.line([(90, 504), (90, 628)], arrow=True)
     step(picture, 110, 612, 8)
-    titled(picture, 36, 630, 216, "client A, plain subscription", "MSG foo 1 5, hello", 46)
+    titled(picture, 36, 630, 216, "client A, subscribed", "MSG foo 1 5, hello", 46)
 
 
 def second_server(picture):
     """The server that serves the queue group."""
     titled(picture, 598, 108, 236, "route from n1", "RMSG .. 4 $G foo | q 5, hello")
     picture.line([(530, 238), (572, 238), (572, 132), (596, 132)], stroke="ink", thick=2, arrow=True)
-    picture.text(572, 120, "route", anchor="middle", fill="muted", size=12)
+    picture.text(572, 120, "route", anchor="middle", fill="muted", size=14)
     picture.line([(716, 156), (716, 212)], arrow=True)
     lock(picture, 598, 180, 516, 100, "hub's lock")
-    titled(picture, 614, 214, 236, "Hub", "mark 3, so 4 is taken, once; turn 5")
+    titled(picture, 614, 214, 236, "Hub", "mark 3: 4 is taken, once; turn 5")
     step(picture, 850, 214, 4)
     lane(picture, 714, "lane 1", "turn 5: [q]")
     lane(picture, 988, "lane 2", "turn 5: [q]")
@@ -185,12 +188,12 @@ def second_server(picture):
     titled(picture, 886, 456, 216, "outbox of C", "MSG foo 7 5")
     step(picture, 1102, 456, 7)
     picture.line([(994, 430), (994, 454)], arrow=True)
-    picture.text(616, 484, "nothing is placed", fill="muted", size=12)
+    picture.text(616, 484, "nothing is placed", fill="muted", size=14)
     titled(picture, 716, 544, 280, "race of n2", "turn 5, q: won by shard 2", 46)
     picture.line([(780, 430), (780, 542)], stroke="claim", thick=2, arrow=True)
-    picture.text(772, 538, "lost", fill="claim", anchor="end", size=12)
+    picture.text(772, 538, "lost", fill="claim", anchor="end", size=14)
     picture.line([(886, 406), (856, 406), (856, 542)], stroke="claim", thick=2, arrow=True)
-    picture.text(848, 538, "won", fill="claim", anchor="end", size=12)
+    picture.text(848, 538, "won", fill="claim", anchor="end", size=14)
     picture.line([(1060, 504), (1060, 628)], arrow=True)
     step(picture, 1080, 612, 8)
     titled(picture, 898, 630, 216, "client C, member of q", "MSG foo 7 5, hello", 46)
@@ -205,9 +208,9 @@ def publication():
     first_server(picture)
     second_server(picture)
     picture.line([(290, 690), (330, 690)], stroke="lock", thick=1.6, dashed=True)
-    picture.text(338, 694, "one lock", fill="muted", size=12)
+    picture.text(338, 694, "one lock", fill="muted", size=14)
     picture.line([(420, 690), (460, 690)], stroke="lane", thick=2)
-    picture.text(468, 694, "a lane: jobs in order of turns", fill="muted", size=12)
-    picture.line([(660, 690), (700, 690)], stroke="claim", thick=2)
-    picture.text(708, 694, "a claim, without a lock", fill="muted", size=12)
+    picture.text(468, 694, "a lane: jobs in order of turns", fill="muted", size=14)
+    picture.line([(690, 690), (730, 690)], stroke="claim", thick=2)
+    picture.text(738, 694, "a claim, without a lock", fill="muted", size=14)
     return picture.whole()

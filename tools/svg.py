@@ -11,7 +11,7 @@ FILLS = {
     "lock": ("#8a5a00", "#d9a441"),
     "lane": ("#0860c4", "#6cb0ff"),
     "claim": ("#7440d0", "#b794f6"),
-    "first": ("#4a94d8", "#4a76a8"),
+    "first": ("#4089cf", "#4a76a8"),
     "second": ("#1f6fc9", "#6cb0ff"),
     "third": ("#0a2f5c", "#d6ebff"),
 }
