@@ -211,17 +211,18 @@ impl<S: Stream> Connection<S> {
         wire.into_stream()
     }
 
-    /// Reads once, unless what was read before waits for memory.
-    pub fn read(&mut self) {
+    /// Reads once, unless what was read before waits for memory. How many bytes came.
+    pub fn read(&mut self) -> usize {
         if self.ending != Ending::Open {
-            return;
+            return 0;
         }
         if self.is_short {
             self.has_more = true;
-            return;
+            return 0;
         }
         let part = self.part.bytes();
-        match self.link.read_from(&mut self.wire, part) {
+        let came = self.link.read_from(&mut self.wire, part);
+        match came {
             Ok(count) => {
                 self.has_more = count == part || self.hangs_up;
                 self.part = self.part.behind(count);
@@ -236,6 +237,7 @@ impl<S: Stream> Connection<S> {
         if self.wire.has_failed() || self.wire.has_ended() {
             self.has_more = false;
         }
+        came.unwrap_or(0)
     }
 
     /// Its buffers are given back at this time, where one may be large, unless this is told again before.

@@ -36,6 +36,8 @@ pub(crate) struct Connections<S: Stream> {
     next_deadline: u64,
     /// How many turns were made.
     pub turns: u64,
+    /// How many bytes came in the last one.
+    pub came: usize,
     /// Whether there was no memory for something, which is tried again.
     pub is_short: bool,
     /// Whether clients are closed once nothing waits for them.
@@ -87,6 +89,7 @@ impl<S: Stream> Connections<S> {
             now: 0,
             next_deadline: u64::MAX,
             turns: 0,
+            came: 0,
             is_short: false,
             drains: false,
             quiet: Vec::new(alloc),
@@ -150,7 +153,7 @@ impl<S: Stream> Connections<S> {
         connection.served_in = self.turns;
         connection.stands_again = false;
         let was_short = connection.is_short;
-        connection.read();
+        self.came = self.came.saturating_add(connection.read());
         self.is_short |= connection.is_short && !was_short;
         self.rest_later(key);
         true

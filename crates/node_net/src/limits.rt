@@ -1,7 +1,7 @@
 //! The limits of a server's connections and of its loop, each with its unit. All of them are this project's profile;
 //! `docs/OPERATING.md` says what comes of them.
 
-use subj::{OUTBOX_BYTES, OUTBOX_ENTRIES};
+use subj::{OUTBOX_BYTES, OUTBOX_ENTRIES, READ_BYTES};
 
 /// How long a client has for its last bytes once it was shut, or sends nothing any more, in milliseconds: as long as
 /// nats-server waits for a write.
@@ -106,6 +106,10 @@ pub(crate) const EVENTS: usize = 1_024;
 /// How often the loop looks whether a socket is ready before it waits, where something came in its last turn: for some 20 to 40 microseconds. A
 /// client that asks again as soon as it was answered is heard sooner then than the system would wake the loop. An idle server never looks.
 pub(crate) const LOOKS: u32 = 64;
+
+/// After a turn in which more bytes came than this the loop waits without a look. Whoever sends so much does not wait for an answer, and sends on
+/// while the loop sleeps; looks would only take time from the system, which has to take in what is sent.
+pub(crate) const LOOK_BYTES: usize = READ_BYTES / 4;
 
 /// After how many bytes of header blocks and payloads what waits for clients is taken before more is read: a client with few
 /// subscriptions has room for several times as much.

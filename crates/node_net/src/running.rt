@@ -4,7 +4,7 @@ use crate::addresses::PeerAddresses;
 use crate::connection::Cause;
 use crate::control::{CONTROL, CONTROL_LINK, Control};
 use crate::faults::AddFault;
-use crate::limits::{ACCEPTS, ASKED_EVERY, EVENTS, LOOKS, RETRY, UNANSWERED};
+use crate::limits::{ACCEPTS, ASKED_EVERY, EVENTS, LOOK_BYTES, LOOKS, RETRY, UNANSWERED};
 use crate::peers::{Peers, Redials};
 use crate::server::{Server, Side};
 use crate::shutdown::Shutdown;
@@ -242,9 +242,9 @@ impl Rounds {
         (self.clients.has_more || self.routes.has_more) && !self.has_failed
     }
 
-    /// Looks a few times whether a socket is ready, where one was in the last turn. Whether one is.
-    fn look(&mut self, events: &mut Events) -> io::Result<bool> {
-        if !self.is_busy || self.may_accept() {
+    /// Looks a few times whether a socket is ready, where one was in the last turn, in which so many bytes came. Whether one is.
+    fn look(&mut self, events: &mut Events, came: usize) -> io::Result<bool> {
+        if !self.is_busy || came > LOOK_BYTES || self.may_accept() {
             return Ok(false);
         }
         for _look in 0..LOOKS {
@@ -444,7 +444,7 @@ impl<C: ServerCalls> Server<TcpStream, C> {
         let next_turn = self.next_turn();
         let now = self.connections.now;
         let patience = rounds.patience(now, next_turn, &self.peers, &self.life);
-        if !rounds.look(events)? {
+        if !rounds.look(events, self.connections.came)? {
             rounds.poll.poll(events, patience)?;
         }
         self.set_time(rounds.time(rt)?);

@@ -135,6 +135,7 @@ impl<S: Stream, C: ServerCalls> Server<S, C> {
     fn serve_all<R: Wait>(&mut self, rt: &R, keys: &[usize]) {
         let connections = &mut self.connections;
         connections.turns = connections.turns.wrapping_add(1);
+        connections.came = 0;
         for place in 0..swapped(&mut connections.again, &mut connections.serving) {
             if let Some(key) = self.connections.serving.get(place).copied() {
                 self.serve(rt, key);
