@@ -1,5 +1,5 @@
-//! The hub of a server: it numbers what its clients publish, chooses the server that serves each queue name, keeps a
-//! view of each peer's interest, and takes or refuses the frames of peers.
+//! The hub of a server: it numbers what its clients publish, chooses the server that serves each queue name, keeps
+//! a view of each peer's interest, and takes or refuses the frames of peers.
 //!
 //! ```text
 //! let mut hub = Hub::new(alloc, server)?;
@@ -8,11 +8,13 @@
 //! let frames = hub.take_route(1, usize::MAX)?;
 //! ```
 //!
-//! In reading order: `hub` has the state, and says why a call is refused (`faults`); `planning` is what a publish owes, by who wants it (`audience`,
-//! which is kept in mind of a hot subject) and by the choice of who serves each queue name (`publishing`), and `local` says whether that is a job and
-//! nothing else; `collecting` counts what shards tell, by `collects`, which is what peers are told of it, and `drains` how a server tells that it has
-//! none any more. `peers` keeps what is known of each: what a frame of a peer does, the snapshot for one that comes up, and the frames that wait.
-//! `own_interest` is the server's own. `answers` is what the calls give. `laws` and `examples` are what holds of all this.
+//! Read first: [`Hub`], [`PublishPlan`], [`HubFault`]. The files in reading order: `hub` has the state, and says
+//! why a call is refused (`faults`); `planning` is what a publish owes, by who wants it (`audience`, which is kept
+//! in mind of a hot subject) and by the choice of who serves each queue name (`publishing`), and `local` says
+//! whether that is a job and nothing else; `collecting` counts what shards tell, by `collects`, which is what peers
+//! are told of it, and `drains` how a server tells that it has none any more. `peers` keeps what is known of each:
+//! what a frame of a peer does, the snapshot for one that comes up, and the frames that wait. `own_interest` is the
+//! server's own. `answers` is what the calls give. `laws` and `examples` are what holds of all this.
 #![tactic(auto)]
 
 mod answers;

@@ -1,6 +1,6 @@
 //! A local publication: it owes the server's own shards a job, and nothing else.
 
-ghost use Rattle.std.specs.Prelude.{◌≡◌, ◌&&◌, true, false, [], IfSome};
+ghost use Rattle.std.specs.Prelude.{◌≡◌, ◌&&◌, ◌||◌, true, nat_lt, [], length, IfSome};
 ghost use Rattle.interest.specs.Matches.{has_plain_match};
 ghost use Rattle.hub_core.specs.Audiences.{IsAudience};
 ghost use Rattle.hub_core.specs.Choice.{is_eligible as eligible};
@@ -68,7 +68,9 @@ impl Hub {
     /// Whether some subscription of the server's own clients, one without a queue name, may want the subject: it does, or there are more than
     /// [`FEW_KEYS`] keys, which are not searched for it.
     pub fn may_be_wanted_here(&self, subject: &LentSubject<'_>) -> bool
-        ensures { result ≡ false → has_plain_match subject.now self.now.state.counts ≡ false }
+        ensures { result
+            ≡ (nat_lt 64 (length self.now.state.counts)
+            || has_plain_match subject.now self.now.state.counts) }
     {
         let counts = self.counts.counts();
         counts.len() > FEW_KEYS || counts.has_plain(subject)
