@@ -9,11 +9,12 @@
 //! let won = seat.has_turn() && cells.claim(&mut seat, 0);
 //! ```
 //!
-//! What is proved holds between any two steps, whatever threads make them and in whatever order they come.
-//! Which shard wins a pair, that a thread gets on, and one common order of all steps are not said.
+//! What is proved holds between any two steps, whatever threads make them and in whatever order they come. Which
+//! shard wins a pair, that a thread gets on, and one common order of all steps are not said.
 //!
-//! In reading order: `seats` are what the hub and each shard step with, `cells` has the calls, `steps` the steps on single words and
-//! `plays` their rule; `closing` is the end of a race, and `cells_race` the same race for one thread.
+//! Read first: [`Cells`], [`ShardSeat`], [`CellsRace`]. The files in reading order: `seats` are what the hub and
+//! each shard step with, `cells` has the calls, `steps` the steps on single words and `plays` their rule; `closing`
+//! is the end of a race, and `cells_race` the same race for one thread.
 #![tactic(auto)]
 
 mod cells;

@@ -7,6 +7,8 @@
 //! assert!(rt; !race.claim(2, turn, 0));
 //! race.finish(1, turn);
 //! ```
+//!
+//! Read first: [`Race`], [`PlainRace`].
 #![tactic(auto)]
 
 ghost use Rattle.std.specs.Prelude.{◌≡◌, ◌<◌, ◌≤◌, IfOk};

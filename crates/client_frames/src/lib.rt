@@ -1,4 +1,5 @@
-//! What clients and a server say to each other: lines are read, and replies and messages written.
+//! The lines that clients and a server send each other: it reads `PUB`, `SUB` and the like, and writes `MSG`, `+OK`
+//! and `-ERR`.
 //!
 //! ```text
 //! let mut texts = SharedTexts::new(alloc);
@@ -8,8 +9,9 @@
 //! }
 //! ```
 //!
-//! In reading order: `decoding` reads a line, as a `client_line` or one of the `faults`, unless it is the `last_line` again; `err_texts` says what is told of these.
-//! `server_frames` are what is sent, which `server_info`, `info`, `encoding` and `message_parts` write.
+//! Read first: [`ClientLine`], [`ReplyFrame`], [`ErrText`]. The files in reading order: `decoding` reads a line, as
+//! a `client_line` or one of the `faults`, unless it is the `last_line` again; `err_texts` says what is told of
+//! these. `server_frames` are what is sent, which `server_info`, `info`, `encoding` and `message_parts` write.
 #![tactic(auto)]
 
 mod client_line;

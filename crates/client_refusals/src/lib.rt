@@ -7,6 +7,8 @@
 //!     Err(Failure::OutOfMemory) => return Err(AllocError),
 //! }
 //! ```
+//!
+//! Read first: [`refusal_of_shard`], [`refusal_of_hub`].
 #![tactic(auto)]
 
 ghost use Rattle.std.specs.Prelude.{◌≡◌};

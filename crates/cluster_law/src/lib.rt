@@ -6,12 +6,17 @@
 //! cluster_law::names_are_unique();
 //! ```
 //!
-//! The machine (`specs/`) has nodes that start and stop, frames that were sent and are handed over at any time, any number of times or never, and on each node a hub, a race for
-//! claims, and shards. Its steps are relations, so it does whatever the rules allow: queue names are split in any way, a claim may be lost, any open subscriptions may close.
-//! Each function here has an empty body, and its contract is a law. The code is shown to follow the machine in the crates above.
+//! The machine (`specs/`) has nodes that start and stop, frames that were sent and are handed over at any time, any
+//! number of times or never, and on each node a hub, a race for claims, and shards. Its steps are relations, so it
+//! does whatever the rules allow: queue names are split in any way, a claim may be lost, any open subscriptions may
+//! close. Each function here has an empty body, and its contract is a law. The code is shown to follow the machine
+//! in the crates above.
 //!
-//! What a placement is worth: it names its publication, its subscription and the content. That the bytes in an outbox are those of the content, and that the outbox gains just the
-//! placements, is said by the crates that hold outboxes.
+//! What a placement is worth: it names its publication, its subscription and the content. That the bytes in an
+//! outbox are those of the content, and that the outbox gains just the placements, is said by the crates that hold
+//! outboxes.
+//!
+//! Read first: [`publications_are_placed_once`].
 #![tactic(auto)]
 
 ghost use Rattle.std.specs.Prelude.{List};
@@ -23,9 +28,10 @@ ghost use Rattle.cluster_law.specs.Runs.{TurnsStay, Path};
 ghost use Rattle.cluster_law.specs.Example.{Witness};
 ghost use Rattle.cluster_law.specs.Counterexamples.{AddresseeIsNeeded, IncarnationIsNeeded, MarkIsNeeded, OriginIsNeeded, SentIsNeeded, ApartIsNeeded, OneFrameIsNeeded, WindowIsNeeded, UnwonIsNeeded, MemberIsNeeded, OnceIsNeeded, FreshIsNeeded, NextIsNeeded};
 
-/// The headline. Whatever is published, subscribed, unsubscribed, delivered, lost, repeated, late, cut or restarted: each publication is placed at most once for a plain
-/// subscription, and for a queue name for at most one member in the whole cluster. What is placed is the content of a publication of an earlier step, for a subscription that was
-/// open at that step and matched. Of one subscription, the publications of one origin incarnation come in strictly rising number.
+/// The headline. Whatever is published, subscribed, unsubscribed, delivered, lost, repeated, late, cut or restarted: each publication is placed at
+/// most once for a plain subscription, and for a queue name for at most one member in the whole cluster. What is placed is the content of a
+/// publication of an earlier step, for a subscription that was open at that step and matched. Of one subscription, the publications of one origin
+/// incarnation come in strictly rising number.
 pub fn publications_are_placed_once()
     ensures { (c : Config) (w : World) → Reached every_rule c w → Headline c w.past }
 {}
@@ -35,8 +41,8 @@ pub fn names_are_unique()
     ensures { (c : Config) (w : World) → Reached every_rule c w → Unique w.past }
 {}
 
-/// A publication has at most one frame for a peer, and so to one incarnation of it. Its queue names are split without overlap among the job at its own node and its frames. At a
-/// node it is accepted at most once, over all incarnations. A job or frame has at most `queue_names` names.
+/// A publication has at most one frame for a peer, and so to one incarnation of it. Its queue names are split without overlap among the job at its
+/// own node and its frames. At a node it is accepted at most once, over all incarnations. A job or frame has at most `queue_names` names.
 pub fn publications_are_routed_once()
     ensures { (c : Config) (w : World) → Reached every_rule c w → Routing c w.past }
 {}
@@ -54,12 +60,14 @@ pub fn finished_turns_stay()
         → TurnsStay w w' }
 {}
 
-/// Each view that a node keeps of another is the interest of the incarnation that it has seen, after some number of changes that this incarnation has made.
+/// Each view that a node keeps of another is the interest of the incarnation that it has seen, after some number of changes that this incarnation has
+/// made.
 pub fn views_are_of_origin()
     ensures { (c : Config) (w : World) → Reached every_rule c w → EachView c w }
 {}
 
-/// One more step of a world that is reached leads to one that is reached. Whoever shows each step of a machine that knows more to be a step of this one has these laws there too.
+/// One more step of a world that is reached leads to one that is reached. Whoever shows each step of a machine that knows more to be a step of this
+/// one has these laws there too.
 pub fn steps_reach()
     ensures { (c : Config) (w w' : World) (e : Event)
         → Reached every_rule c w
@@ -67,16 +75,16 @@ pub fn steps_reach()
         → Reached every_rule c w' }
 {}
 
-/// A machine that knows more of its nodes has these laws too. Where each next world, as far as this machine sees it, is a step or no change, each of its worlds is one that is
-/// reached.
+/// A machine that knows more of its nodes has these laws too. Where each next world, as far as this machine sees it, is a step or no change, each of
+/// its worlds is one that is reached.
 pub fn paths_are_reached()
     ensures { (c : Config) (worlds : List World)
         → Path c (begin c) worlds
         → Each (Reached every_rule c) worlds }
 {}
 
-/// The laws are not empty: a run of two nodes in which a queue member and a plain subscription of the other node both get a message, a repeated frame is refused, and a restart
-/// refuses a late one.
+/// The laws are not empty: a run of two nodes in which a queue member and a plain subscription of the other node both get a message, a repeated frame
+/// is refused, and a restart refuses a late one.
 pub fn some_run_places_and_refuses()
     ensures { Witness }
 {}

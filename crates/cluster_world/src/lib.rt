@@ -1,4 +1,4 @@
-//! A cluster in code: one value whose steps are those of the exact cluster.
+//! A cluster of servers as one Rust value, [`World`]; each of its steps is a step of the exact cluster.
 //!
 //! ```text
 //! let mut world: World<ListTable, PlainRace> = World::new(alloc, names, 2)?.ok_or("a cluster")?;
@@ -7,11 +7,12 @@
 //! let placements = world.placements();
 //! ```
 //!
-//! Each step of a [`World`] is a step by the definitions of `world_law`, so what holds of every run holds of it: the headline, and
-//! that a cluster at rest delivers (`settled_law`).
+//! Each step of a [`World`] is a step by the definitions of `world_law`, so what holds of every run holds of it:
+//! the headline, and that a cluster at rest delivers (`settled_law`).
 //!
-//! In reading order: `events` and `outcomes`, `records` (what is kept of what was done), `nodes` (the servers, and what an event hands to
-//! one), `lists` (what a step adds), and `world`.
+//! Read first: [`Event`], [`World`], [`Outcome`]. The files in reading order: `events` and `outcomes`, `records`
+//! (what is kept of what was done), `nodes` (the servers, and what an event hands to one), `lists` (what a step
+//! adds), and `world`.
 #![tactic(auto)]
 
 mod events;

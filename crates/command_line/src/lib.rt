@@ -7,6 +7,8 @@
 //!     Err(error) => tell_line(&rt, &error),
 //! }
 //! ```
+//!
+//! Read first: [`words`].
 #![tactic(auto)]
 
 mod line;

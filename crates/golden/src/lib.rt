@@ -1,5 +1,5 @@
-//! Cases as data: files in which each line has a call and the answer that was worked out by hand for it. A program makes the calls;
-//! this crate reads the files, compares, and tells what differs.
+//! Cases as data: files in which each line has a call and the answer that was worked out by hand for it. A program
+//! makes the calls; this crate reads the files, compares, and tells what differs.
 //!
 //! ```text
 //! # subjects are read just where they are valid
@@ -14,14 +14,17 @@
 //!
 //! - `case NAME` begins a case, in which nothing stands that an earlier one has made.
 //! - Any other line is a call, ` => `, and its answer; a call alone is answered `ok`.
-//! - Behind `times FIRST..LAST` calls with ` ; ` between them are made for each of these numbers, which stands for `#` in them and in their
-//!   answers. `times N` is `times 1..N`. The first call that is answered otherwise ends the line.
+//! - Behind `times FIRST..LAST` calls with ` ; ` between them are made for each of these numbers, which stands for
+//!   `#` in them and in their answers. `times N` is `times 1..N`. The first call that is answered otherwise ends
+//!   the line.
 //! - A call is its name, a blank, and its arguments with `|` between them.
 //! - `<<TEXT*N>>` stands for the text N times, in calls and in answers.
-//! - Bytes are written as text in which `\r`, `\n` and `\\` are CR, LF and a backslash, and `\xHH` is any other byte.
+//! - Bytes are written as text in which `\r`, `\n` and `\\` are CR, LF and a backslash, and `\xHH` is any other
+//!   byte.
 //! - Empty lines are passed over, and lines that begin with `#`.
 //!
-//! In reading order: `lines` cuts a line, `words` its arguments and what stands in tables, `calls` the name of a call, `texts` reads bytes and tells answers, `values`
+//! Read first: [`Call`], [`Answer`], [`Rig`]. The files in reading order: `lines` cuts a line, `words` its
+//! arguments and what stands in tables, `calls` the name of a call, `texts` reads bytes and tells answers, `values`
 //! reads names, messages and servers, and `playing` plays the files.
 #![tactic(auto)]
 

@@ -6,12 +6,11 @@
 //! // `disk` has the lock of the folder: keep it as long as the server runs.
 //! ```
 //!
-//! In reading order: `Disk` (in `disk`) is what a disk does, and what the next start may find of
-//! it, and `MemoryDisk` a disk that fails as it is told; `FileDisk` (`file_disk`) is a folder of
-//! the system. `raise` (`raising`) takes the next number, from the line of the file, and
-//! `all_lives` is the law of many starts. The faults stand where they are told, in words for an
-//! operator: their texts name the files of the folder, and whoever tells them names the folder,
-//! which they do not know.
+//! Read first: [`Disk`], [`raise`], [`FileDisk`]. The files in reading order: `Disk` (in `disk`) is what a disk
+//! does, and what the next start may find of it, and `MemoryDisk` a disk that fails as it is told; `FileDisk`
+//! (`file_disk`) is a folder of the system. `raise` (`raising`) takes the next number, from the line of the file,
+//! and `all_lives` is the law of many starts. The faults stand where they are told, in words for an operator: their
+//! texts name the files of the folder, and whoever tells them names the folder, which they do not know.
 #![tactic(auto)]
 
 mod disk;

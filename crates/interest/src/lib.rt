@@ -1,5 +1,5 @@
-//! The interest of a server's clients: how many subscriptions of each key are open, and which changes of that the other
-//! servers are told.
+//! The interest of a server's clients: how many subscriptions are open for each key, and what the other servers are
+//! told when that changes.
 //!
 //! ```text
 //! let mut counts = Local::new(alloc)?;
@@ -9,9 +9,10 @@
 //! }
 //! ```
 //!
-//! In reading order: `changes` is what is told; `local` is the server's own interest, and `views` that of a peer, both
-//! over keys in order (`ordered_keys`, `keys`). `seeks` with `sights` finds the keys that match a subject, `matches` and `names` say who
-//! wants it. `tally` and `recounts` count many changes at once.
+//! Read first: [`Change`], [`Local`], [`View`]. The files in reading order: `changes` is what is told; `local` is
+//! the server's own interest, and `views` that of a peer, both over keys in order (`ordered_keys`, `keys`). `seeks`
+//! with `sights` finds the keys that match a subject, `matches` and `names` say who wants it. `tally` and
+//! `recounts` count many changes at once.
 #![tactic(auto)]
 
 mod changes;

@@ -1,4 +1,5 @@
-//! The jobs of several publications in one block: their bytes one behind another, so that a job costs no memory of its own.
+//! The jobs of several publications in one block: their bytes one behind another, so that a job costs no memory of
+//! its own.
 //!
 //! ```text
 //! let mut block = JobBlock::new(alloc, first_turn, 32)?;
@@ -8,8 +9,9 @@
 //! block.clear(next_turn);
 //! ```
 //!
-//! In reading order: `publications` is what is put into a block, `blocks` the block, `lent_jobs` and `slices` how its jobs are seen;
-//! `spans` and `kept` are how it keeps them.
+//! Read first: [`JobBlock`], [`JobSlice`], [`LentJob`]. The files in reading order: `publications` is what is put
+//! into a block, `blocks` the block, `lent_jobs` and `slices` how its jobs are seen; `spans` and `kept` are how it
+//! keeps them.
 #![tactic(auto)]
 
 mod blocks;

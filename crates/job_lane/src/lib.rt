@@ -8,7 +8,8 @@
 //! let jobs = far.waiting();
 //! ```
 //!
-//! In reading order: `runs` is what a lane carries, `ends` its two ends; `rule`, `steps` and `counts` are what its queue keeps.
+//! Read first: [`Run`], [`LaneIn`], [`LaneOut`]. The files in reading order: `runs` is what a lane carries, `ends`
+//! its two ends; `rule`, `steps` and `counts` are what its queue keeps.
 #![tactic(auto)]
 
 mod counts;

@@ -7,8 +7,9 @@
 //! assert_eq!(rt; read_digits(second, MAX_DIGITS), Some(7));
 //! ```
 //!
-//! In reading order: `splitting` has the fields of a line, `digits` the numbers in them, and `laws` what holds of both; `appending` is what
-//! lines are written with.
+//! Read first: [`split_line`], [`read_digits`], [`is_word`]. The files in reading order: `splitting` has the fields
+//! of a line, `digits` the numbers in them, and `laws` what holds of both; `appending` is what lines are written
+//! with.
 #![tactic(auto)]
 
 mod appending;

@@ -1,5 +1,4 @@
-//! Definitions and lemmas for the lists that laws speak of: what holds of each entry, of each two entries, and of two
-//! lists entry by entry.
+//! Definitions and lemmas about lists that the laws of other crates use; it has no code.
 //!
 //! ```text
 //! // In code:
@@ -9,5 +8,5 @@
 //! use Rattle.list_laws.proofs.Lists.{each_cons}
 //! ```
 //!
-//! It has no code. What the crates above prove of shards, hubs, nodes and the cluster is said in these words.
+//! What the crates above prove of shards, hubs, nodes and the cluster is said in these words.
 #![tactic(auto)]

@@ -8,9 +8,10 @@
 //! print!(rt; "{mesh}")?;
 //! ```
 //!
-//! In reading order: [`MeshFile`] (`mesh`) is what a file says, [`MeshServer`] (`servers`) what it says of one server, and [`MeshFault`]
-//! (`faults`) why a text is no such file. `tables` reads the tables of the file and the keys of each server,
-//! `addresses` the texts of addresses and of hosts, and `servers` compares servers and puts them in order.
+//! Read first: [`MeshFile`], [`MeshServer`], [`MeshFault`]. The files in reading order: [`MeshFile`] (`mesh`) is
+//! what a file says, [`MeshServer`] (`servers`) what it says of one server, and [`MeshFault`] (`faults`) why a text
+//! is no such file. `tables` reads the tables of the file and the keys of each server, `addresses` the texts of
+//! addresses and of hosts, and `servers` compares servers and puts them in order.
 #![tactic(auto)]
 
 mod addresses;

@@ -1,5 +1,5 @@
-//! Serves one client on a reader and a writer, with a server for this client alone: [`pipe_run`] reads what the client
-//! sends and writes what the server answers, which is a function of the bytes alone.
+//! Serves one client over a reader and a writer, as `nats_mesh pipe` does over standard input and output; the
+//! output is a function of the input bytes alone.
 //!
 //! ```text
 //! let mut source = Raw::new(rt.reader());
@@ -7,8 +7,9 @@
 //! let end = pipe_run::<PlainRace, _, _>(rt.alloc(), &mut source, &mut sink)?;
 //! ```
 //!
-//! In reading order: `pipe` is the loop and what its contract says of all bytes that were written, and how a program ends then;
-//! `pipe_server` makes the server's calls, and answers each thing that the connection asks.
+//! Read first: [`pipe_run`], [`PipeEnd`], [`PipeFault`]. The files in reading order: `pipe` is the loop and what
+//! its contract says of all bytes that were written, and how a program ends then; `pipe_server` makes the server's
+//! calls, and answers each thing that the connection asks.
 #![tactic(auto)]
 
 mod faults;

@@ -7,11 +7,13 @@
 //! match_run(alloc, b"orders.*", b"orders.new", &mut sink)?;
 //! ```
 //!
-//! [`play`] makes the events of a script in the exact cluster and writes a line for each of them, and for each question and behind each
-//! delivery one that is no event's; then one for each message that was placed, and a last line; [`script_run`] reads the script first, and
-//! [`script_world_run`] gives the cluster too.
-//! Beside it, [`match_run`] tells whether one pattern matches one subject. In reading order: `player`, which asks for the events of each
-//! step and makes them, `whole_runs`, which reads a script first, and `output`, which writes lines.
+//! [`play`] makes the events of a script in the exact cluster and writes a line for each of them, and for each
+//! question and behind each delivery one that is no event's; then one for each message that was placed, and a last
+//! line; [`script_run`] reads the script first, and [`script_world_run`] gives the cluster too. Beside it,
+//! [`match_run`] tells whether one pattern matches one subject.
+//!
+//! Read first: [`play`], [`script_run`], [`PlayFault`]. The files in reading order: `player`, which asks for the
+//! events of each step and makes them, `whole_runs`, which reads a script first, and `output`, which writes lines.
 #![tactic(auto)]
 
 mod output;

@@ -1,4 +1,5 @@
-//! A mesh of servers in one process: [`serve`] runs it as its options say. [`serve_node`] runs one server of a mesh whose others are elsewhere.
+//! A mesh of servers in one process: [`serve`] runs it as its options say. [`serve_node`] runs one server of a mesh
+//! whose others are elsewhere.
 //!
 //! ```text
 //! let given = Given { nodes: 3, port: 4222, shards: 2, inc: 1, word: 0, stop_after: None, log_level: "info", drain_seconds: 30,
@@ -7,9 +8,12 @@
 //! serve(rt, rt.alloc(), &options)?;
 //! ```
 //!
-//! `planned` says which servers a process has and where they are reached; `serving` reads the file of a mesh where there is one, binds the sockets of
-//! these servers, gives each a thread, and has the names of other servers' hosts looked up, each in a thread of its own; `control` has both ends of the
-//! socket by which they are told to drain; `faults` are the causes for which a mesh is not served any more, and for which none drains.
+//! `planned` says which servers a process has and where they are reached; `serving` reads the file of a mesh where
+//! there is one, binds the sockets of these servers, gives each a thread, and has the names of other servers' hosts
+//! looked up, each in a thread of its own; `control` has both ends of the socket by which they are told to drain;
+//! `faults` are the causes for which a mesh is not served any more, and for which none drains.
+//!
+//! Read first: [`serve`], [`serve_node`], [`ServeFault`].
 #![tactic(auto)]
 
 mod control;

@@ -250,8 +250,8 @@ fn look_up<R: Net>(
     Ok(all)
 }
 
-/// Waits for a pause of so many seconds, or until the name of the server at this place is to be looked up although the pause is not over: the server is
-/// not reached, or somebody has come from an address of no server, who may be it.
+/// Waits for a pause of so many seconds, or until the name of the server at this place is to be looked up although the pause is not over: the server
+/// is not reached, or somebody has come from an address of no server, who may be it.
 fn pause<R: Clock>(rt: &R, shared: &Shared, place: usize, seconds: u64) {
     let strangers = shared.addresses.strangers();
     for _second in 0..seconds {
@@ -715,10 +715,10 @@ fn next_life<'a, R: Net + Files<File = File> + Print + Eprint + Alloc<A = Global
 
 /// Serves one server of the mesh that the options' file describes, and takes part in the mesh as soon as the others are reached.
 ///
-/// The file is read first, then that of the secret where there is one, and the server's incarnation is raised in its folder before any socket opens; the folder is this process's
-/// until the end. Then standard output tells the incarnation, and where clients and other servers connect. It ends once the server has
-/// drained, which it is told at the path of the options, by [`ask_drain`](crate::ask_drain). The error is the first cause, in the order of
-/// [`NodeFault`]. May wait, and for ever.
+/// The file is read first, then that of the secret where there is one, and the server's incarnation is raised in its folder before any socket opens;
+/// the folder is this process's until the end. Then standard output tells the incarnation, and where clients and other servers connect. It ends once
+/// the server has drained, which it is told at the path of the options, by [`ask_drain`](crate::ask_drain). The error is the first cause, in the
+/// order of [`NodeFault`]. May wait, and for ever.
 pub fn serve_node<R>(rt: &R, alloc: Global, options: &NodeOptions<'_>) -> Result<(), NodeFault>
 where
     R: Threads

@@ -1,4 +1,4 @@
-//! The streams of connections, which are sockets or stand in memory and can be made to fail, and the bytes that a
+//! The bytes of a connection: it reads and writes a socket, or a stand-in in memory, and keeps in order what the
 //! stream has not taken yet.
 //!
 //! ```text
@@ -9,12 +9,13 @@
 //! assert_eq!(rt; wire.stream().written(), b"PONG".as_slice());
 //! ```
 //!
-//! Over any stream, whatever it takes at a time: what it took is the beginning of what it should be given, in order, nothing twice
-//! and nothing left out, and the bytes behind that still wait (`Outgoing::write_to`, and for all runs of writes together
-//! `bytes_keep_their_order`). Behind a fault no write is made.
+//! Over any stream, whatever it takes at a time: what it took is the beginning of what it should be given, in
+//! order, nothing twice and nothing left out, and the bytes behind that still wait (`Outgoing::write_to`, and for
+//! all runs of writes together `bytes_keep_their_order`). Behind a fault no write is made.
 //!
-//! In reading order: `stream` is what a connection needs, `sockets` and `mem_stream` have it, and a socket may end in `silence`; `wire` reads and writes one and notes
-//! its end; `outgoing` keeps what it did not take; `laws` speak of all runs of writes together.
+//! Read first: [`Stream`], [`Wire`], [`Outgoing`]. The files in reading order: `stream` is what a connection needs,
+//! `sockets` and `mem_stream` have it, and a socket may end in `silence`; `wire` reads and writes one and notes its
+//! end; `outgoing` keeps what it did not take; `laws` speak of all runs of writes together.
 #![tactic(auto)]
 
 mod laws;

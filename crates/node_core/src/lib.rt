@@ -1,5 +1,5 @@
-//! One server as one value: its hub with its sessions, its shards with the jobs that wait for them, and the race that decides
-//! their claims.
+//! One server as one value: its hub with its sessions, its shards with the jobs that wait for them, and the race
+//! that decides their claims.
 //!
 //! ```text
 //! let mut node: Node<ListTable, PlainRace> = Node::new(alloc, server)?;
@@ -9,11 +9,13 @@
 //! node.begin(1, false)?;
 //! ```
 //!
-//! Each call of [`Node`] is a step of the server, by the definitions of `node_law`; a list of events is a run of such steps, which
-//! keeps the promises of one server.
+//! Each call of [`Node`] is a step of the server, by the definitions of `node_law`; a list of events is a run of
+//! such steps, which keeps the promises of one server.
 //!
-//! In reading order: `event_ref` and `did` are what a server is asked and what it did, `node` is the server with a call for each event, why it
-//! refuses, and a list of events; `node/stepping` is the step of any event, with its answer alone or with all that it did; `node/asked` has it for events that are lent.
+//! Read first: [`Node`], [`EventRef`], [`Did`]. The files in reading order: `event_ref` and `did` are what a server
+//! is asked and what it did, `node` is the server with a call for each event, why it refuses, and a list of events;
+//! `node/stepping` is the step of any event, with its answer alone or with all that it did; `node/asked` has it for
+//! events that are lent.
 #![tactic(auto)]
 
 mod answers;

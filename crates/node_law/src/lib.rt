@@ -7,8 +7,10 @@
 //! let subscribe = NodeEvent::of_conn(conn, ConnEvent::Subscribe { key, sid });
 //! ```
 //!
-//! A server is a hub, its sessions, its shards with the jobs that wait for them, and the race for claims, put together. Each law
-//! is a function with an empty body. In code are only the events and the refusals.
+//! A server is a hub, its sessions, its shards with the jobs that wait for them, and the race for claims, put
+//! together. Each law is a function with an empty body. In code are only the events and the refusals.
+//!
+//! Read first: [`NodeEvent`], [`NodeFault`], [`servers_keep_their_promises`].
 #![tactic(auto)]
 
 mod events;

@@ -1,5 +1,5 @@
-//! The connections of one server, and its loop: it reads their streams, makes the calls that clients and routes ask
-//! for, and writes what waits for them.
+//! The connections of one server and its event loop: it reads sockets, makes the calls that clients and routes ask
+//! for, and writes what waits.
 //!
 //! ```text
 //! let mut server: Server<MemStream, _> = Server::new(alloc, &node, life, host, 4222, 0)?;
@@ -11,14 +11,18 @@
 //!
 //! The server is whatever makes the calls of `server_calls`.
 //!
-//! In reading order: `client_link` and `route_link` make calls of what was read, and tell what they have come to (`runs`); a `handshake` is what a
-//! route begins with where the mesh has a secret, and `proving` is what the server does of it; `connection` has one of them with its stream (`read_size`: how much is read of it at once); `laws`
-//! says that what is sent to it keeps its order, that the turns of a client are runs of its life, and that a route reads all that came; `connections`
-//! has all of them, and what is noted of each until it is done; `server` takes them and lets them go, and finds those of clients (`clients`) and of
-//! other servers (`peers`); `turning` and `flushing` are a turn of its loop, by what was `taken` for clients, in `parts`, `draining` is what a server
-//! that drains does, and `running` is the loop, which reaches other servers at their `addresses`, and is told by operators over a `control` socket.
-//! All that these ask of the server's shards and of its hub they ask by `holds`, which alone takes the locks. `shutdown` says when the loop ends, and
-//! which server drains, the `limits` when and how much of everything, and `faults` why no stream is taken.
+//! Read first: [`Server`], [`Sockets`], [`PeerAddresses`]. The files in reading order: `client_link` and
+//! `route_link` make calls of what was read, and tell what they have come to (`runs`); a `handshake` is what a
+//! route begins with where the mesh has a secret, and `proving` is what the server does of it; `connection` has one
+//! of them with its stream (`read_size`: how much is read of it at once); `laws` says that what is sent to it keeps
+//! its order, that the turns of a client are runs of its life, and that a route reads all that came; `connections`
+//! has all of them, and what is noted of each until it is done; `server` takes them and lets them go, and finds
+//! those of clients (`clients`) and of other servers (`peers`); `turning` and `flushing` are a turn of its loop, by
+//! what was `taken` for clients, in `parts`, `draining` is what a server that drains does, and `running` is the
+//! loop, which reaches other servers at their `addresses`, and is told by operators over a `control` socket. All
+//! that these ask of the server's shards and of its hub they ask by `holds`, which alone takes the locks.
+//! `shutdown` says when the loop ends, and which server drains, the `limits` when and how much of everything, and
+//! `faults` why no stream is taken.
 #![tactic(auto)]
 
 mod addresses;

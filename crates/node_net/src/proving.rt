@@ -157,7 +157,8 @@ impl<S: Stream, C: ServerCalls> Server<S, C> {
         self.has_secret() && self.guard.word.is_none()
     }
 
-    /// Whether there is a place for one stranger more: a free one, or that of the one that came first, where it came [`STRANGER_STAY`] ago or earlier.
+    /// Whether there is a place for one stranger more: a free one, or that of the one that came first, where it came [`STRANGER_STAY`] ago or
+    /// earlier.
     pub(crate) fn has_place(&self) -> bool {
         let Some(first) = self.guard.first_of_all() else {
             return true;

@@ -127,8 +127,8 @@ impl Shutdown {
         self.wake_all();
     }
 
-    /// Asks the server at this place of the cluster, counted from 0, to drain, and wakes it. One that drains already ends its drain at once. Whether there is
-    /// such a server.
+    /// Asks the server at this place of the cluster, counted from 0, to drain, and wakes it. One that drains already ends its drain at once. Whether
+    /// there is such a server.
     pub fn ask_drain(&self, place: usize) -> bool {
         match self.server_at(place) {
             None => false,

@@ -1,4 +1,5 @@
-//! The parts of one server in code: a shard with the jobs that wait for it ([`ShardWithJobs`]), and the hub with its sessions ([`HubWithSessions`]).
+//! The parts of one server in code: a shard with the jobs that wait for it ([`ShardWithJobs`]), and the hub with
+//! its sessions ([`HubWithSessions`]).
 //!
 //! ```text
 //! let mut side = HubWithSessions::new(alloc, server)?;
@@ -10,7 +11,8 @@
 //!
 //! Whoever has them under one roof is a server; so has whoever keeps each under a lock of its own.
 //!
-//! In reading order: `lines`, `side` and `jobs` (a job for each line).
+//! Read first: [`ShardWithJobs`], [`HubWithSessions`], [`Issued`]. The files in reading order: `lines`, `side` and
+//! `jobs` (a job for each line).
 #![tactic(auto)]
 
 mod jobs;

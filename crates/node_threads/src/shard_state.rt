@@ -1,5 +1,5 @@
-//! What stands under the lock of a shard: its state, the calls that its connections make, its turns, the jobs that it drops, and its end. A turn works one
-//! job, or several that wait in one call, each to its end, and may be held by a gate; its steps are written down.
+//! What stands under the lock of a shard: its state, the calls that its connections make, its turns, the jobs that it drops, and its end. A turn
+//! works one job, or several that wait in one call, each to its end, and may be held by a gate; its steps are written down.
 
 ghost use Rattle.std.specs.Prelude.{◌≡◌, ◌-◌, ◌<◌, ◌≤◌, [], ◌∷◌, None, Some, IfOk, IfSome, IfNone, slice_get, option_to_list, true, false, cond, is_some, length, nat_lt, OnOk, OnErr};
 ghost use Rattle.subj.specs.Answers.{IsAnswered, IsDecided};

@@ -8,9 +8,10 @@
 //! }
 //! ```
 //!
-//! In reading order: `entries` is what waits, `run_tails` what the messages of a run have of their own, `kept` how one entry is kept,
-//! `byte_queue` how the bytes of all are, `tail_marks`, `kept_runs`, `kept_queue` and `kept_entries` what they are, `entry_queue` is both,
-//! and `outbox` is the outbox.
+//! Read first: [`Entry`], [`Outbox`], [`RunTails`]. The files in reading order: `entries` is what waits,
+//! `run_tails` what the messages of a run have of their own, `kept` how one entry is kept, `byte_queue` how the
+//! bytes of all are, `tail_marks`, `kept_runs`, `kept_queue` and `kept_entries` what they are, `entry_queue` is
+//! both, and `outbox` is the outbox.
 #![tactic(auto)]
 
 mod byte_queue;

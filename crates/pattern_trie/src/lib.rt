@@ -8,8 +8,9 @@
 //! trie.remove(&pattern, serial);
 //! ```
 //!
-//! In reading order: `node` is what stands for one beginning of patterns, and `nodes` has all of them, found by a hash (`text_hasher`);
-//! `beginnings` enters a pattern and takes it out, and `walks` finds what a subject reaches, by the tokens that may go on (`marks`).
+//! Read first: [`PatternTrie`]. The files in reading order: `node` is what stands for one beginning of patterns,
+//! and `nodes` has all of them, found by a hash (`text_hasher`); `beginnings` enters a pattern and takes it out,
+//! and `walks` finds what a subject reaches, by the tokens that may go on (`marks`).
 #![tactic(auto)]
 
 ghost use Rattle.std.specs.Prelude.{◌≡◌, List, [], ◌∷◌, ◌++◌, false, None, OnOk, OnErr};

@@ -1,5 +1,5 @@
-//! A handshake: the names and words of it, what is authenticated of them, and its two ends, each as a value that says what it answers to a line. Laws of
-//! the definitions are contracts of calls that do nothing.
+//! A handshake: the names and words of it, what is authenticated of them, and its two ends, each as a value that says what it answers to a line. Laws
+//! of the definitions are contracts of calls that do nothing.
 
 ghost use Rattle.std.specs.Prelude.{◌≡◌, ◌≤◌, ◌++◌, ℕ, List, length};
 ghost use Rattle.sha2.specs.Hashers.{Holds256};
@@ -212,9 +212,9 @@ fn hear_proof(secret: &Secret, parties: &Parties, line: &[u8]) -> Result<Heard, 
 }
 
 impl Acceptor {
-    /// Hears the dialer's next line, as this life of a server: what it comes to, or why the dialer is refused. A `HELLO` has to be for this server and
-    /// of another one of the mesh; a `PROOF` has to be that of the dialer over both names and both words. A proof of the acceptor's own role is none of
-    /// the dialer's.
+    /// Hears the dialer's next line, as this life of a server: what it comes to, or why the dialer is refused. A `HELLO` has to be for this server
+    /// and of another one of the mesh; a `PROOF` has to be that of the dialer over both names and both words. A proof of the acceptor's own role is
+    /// none of the dialer's.
     pub fn hear(
         &self,
         secret: &Secret,

@@ -7,9 +7,10 @@
 //! send(mac);
 //! ```
 //!
-//! In reading order: `secret` is what both servers have, and HMAC-SHA256 under it; `lines` writes and reads the words that go over the wire and the three
-//! lines; `handshake` has the names and words of one handshake, what is authenticated of them, its two ends, each as a value that says what it answers
-//! to a line, and laws that say what the definitions come to.
+//! Read first: [`Secret`], [`Dialer`], [`Acceptor`]. The files in reading order: `secret` is what both servers
+//! have, and HMAC-SHA256 under it; `lines` writes and reads the words that go over the wire and the three lines;
+//! `handshake` has the names and words of one handshake, what is authenticated of them, its two ends, each as a
+//! value that says what it answers to a line, and laws that say what the definitions come to.
 #![tactic(auto)]
 
 mod handshake;

@@ -1,5 +1,5 @@
-//! The words of 32 bytes that go over the wire, and the lines of a handshake, written and read. Fields are separated as in all lines of servers; none of
-//! these has the CR LF that ends it.
+//! The words of 32 bytes that go over the wire, and the lines of a handshake, written and read. Fields are separated as in all lines of servers; none
+//! of these has the CR LF that ends it.
 
 ghost use Rattle.std.specs.Prelude.{◌≡◌, ◌++◌, None, Some, MatchOption, OnOk, option_map};
 ghost use Rattle.std.specs.Str.{bytes_eq};

@@ -5,6 +5,8 @@
 //! assert_eq!(rt; choose(&servers, 0), Some(first));
 //! assert_eq!(rt; choose(&servers, 5), Some(second));
 //! ```
+//!
+//! Read first: [`choose`].
 #![tactic(auto)]
 
 ghost use Rattle.std.specs.Prelude.{◌≡◌, ◌^◌, ◌<◌, ◌↔◌, IsNone, IfSome, Any, slice_get};

@@ -11,11 +11,11 @@
 //! }
 //! ```
 //!
-//! Where a line has to come next, a text that begins with such publications is read as just these, in order, and then as what stands behind
-//! them (`run_is_read`). So whoever scans them may use up their bytes at once.
+//! Where a line has to come next, a text that begins with such publications is read as just these, in order, and
+//! then as what stands behind them (`run_is_read`). So whoever scans them may use up their bytes at once.
 //!
-//! In reading order: `runs` scans the publications, `lines` judges the line of one, and `cuts` cuts a text; `laws` has what holds of the
-//! definitions.
+//! Read first: [`LentRun`], [`LentAhead`]. The files in reading order: `runs` scans the publications, `lines`
+//! judges the line of one, and `cuts` cuts a text; `laws` has what holds of the definitions.
 #![tactic(auto)]
 
 mod cuts;

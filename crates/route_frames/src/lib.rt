@@ -8,9 +8,10 @@
 //! encode(&frame, &mut out)?;
 //! ```
 //!
-//! In reading order: `line_reading` splits a line and judges it as it stands there; `snapshot_reading` and `greetings` read the texts
-//! of snapshots, and of `INFO` and `CONNECT`; `reading` copies what a line says, keeps it until its payload comes, and reads whole
-//! frames; `encoding` writes them; `faults` has the refusals.
+//! Read first: [`RouteLine`], [`encode`], [`RouteFault`]. The files in reading order: `line_reading` splits a line
+//! and judges it as it stands there; `snapshot_reading` and `greetings` read the texts of snapshots, and of `INFO`
+//! and `CONNECT`; `reading` copies what a line says, keeps it until its payload comes, and reads whole frames;
+//! `encoding` writes them; `faults` has the refusals.
 #![tactic(auto)]
 
 mod encoding;

@@ -7,8 +7,8 @@
 //! assert_eq!(rt; sessions.kept_session(1), Some(session));
 //! ```
 //!
-//! In reading order: `offers` says which of two sessions is the better one, `session` keeps those that stand, and `sessions` has the
-//! calls.
+//! Read first: [`Sessions`], [`Kept`], [`SessionFault`]. The files in reading order: `offers` says which of two
+//! sessions is the better one, `session` keeps those that stand, and `sessions` has the calls.
 #![tactic(auto)]
 
 mod examples;

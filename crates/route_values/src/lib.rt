@@ -1,4 +1,4 @@
-//! The contents of the frames of routes, as values: each value can be spelt as bytes.
+//! The contents of the frames that servers send each other, as values; each value can be written as bytes.
 //!
 //! ```text
 //! let key = Key { pattern, queue: None };
@@ -7,8 +7,9 @@
 //! let frame = RouteFrame::Numbered(frame.ok_or("a frame")?);
 //! ```
 //!
-//! In reading order: `info` and `connect` are how two servers greet one another; `bodies` is what a numbered frame says, with `snapshots`
-//! of interest, and `frames` has all frames. `valid` says what holds of each value.
+//! Read first: [`RouteFrame`], [`Body`], [`SnapshotKeys`]. The files in reading order: `info` and `connect` are how
+//! two servers greet one another; `bodies` is what a numbered frame says, with `snapshots` of interest, and
+//! `frames` has all frames. `valid` says what holds of each value.
 #![tactic(auto)]
 
 mod bodies;

@@ -9,8 +9,8 @@
 //! }
 //! ```
 //!
-//! In reading order: `command` is what the words ask for, and `options` what a mesh and one server of a mesh are told, or why the options are
-//! none.
+//! Read first: [`Command`], [`Options`], [`NodeOptions`]. The files in reading order: `command` is what the words
+//! ask for, and `options` what a mesh and one server of a mesh are told, or why the options are none.
 #![tactic(auto)]
 
 mod command;

@@ -7,11 +7,12 @@
 //! }
 //! ```
 //!
-//! A script is JSON that names the servers of a cluster and says step by step what is done in it. [`Script::read`] reads just
-//! those bytes that are one, and tells of all others the first cause for which they are none.
+//! A script is JSON that names the servers of a cluster and says step by step what is done in it. [`Script::read`]
+//! reads just those bytes that are one, and tells of all others the first cause for which they are none.
 //!
-//! In reading order: `steps` is what a script says, and the words that it is said with; `script` reads members of a JSON object,
-//! a step, and the whole. `faults` has the causes, and where they hold.
+//! Read first: [`Script`], [`Step`], [`ScriptFault`]. The files in reading order: `steps` is what a script says,
+//! and the words that it is said with; `script` reads members of a JSON object, a step, and the whole. `faults` has
+//! the causes, and where they hold.
 #![tactic(auto)]
 
 mod faults;

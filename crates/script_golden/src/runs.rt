@@ -1,6 +1,6 @@
-//! What is run in a case, and how that ends: scripts are read and played, logs audited, patterns matched, and one client is served on a pipe. Before these
-//! stands what is read and written: bytes that a case puts together, what was written last, looked at piece by piece, and readers and writers that
-//! give little, take little or fail.
+//! What is run in a case, and how that ends: scripts are read and played, logs audited, patterns matched, and one client is served on a pipe. Before
+//! these stands what is read and written: bytes that a case puts together, what was written last, looked at piece by piece, and readers and writers
+//! that give little, take little or fail.
 
 ghost use Rattle.std.specs.Prelude.{◌≤◌, ◌<◌, IfSome, length};
 

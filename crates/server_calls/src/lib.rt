@@ -1,4 +1,4 @@
-//! The calls that connections make of their server, as traits, so that a connection depends on no one kind of server.
+//! The traits through which connections call a server, so that they work with any server.
 //!
 //! ```text
 //! let Some(mut shard) = server.shard(rt, 1) else {
@@ -8,8 +8,11 @@
 //! let next = shard.work_next(rt);
 //! ```
 //!
-//! A server has a hub and some shards, which it hands out one at a time (`server`). Of a shard (`shard`) a client's connection makes
-//! the calls of `client_calls`, all but publications, which it makes of the hub (`hub`); a route makes its calls of the hub too.
+//! A server has a hub and some shards, which it hands out one at a time (`server`). Of a shard (`shard`) a client's
+//! connection makes the calls of `client_calls`, all but publications, which it makes of the hub (`hub`); a route
+//! makes its calls of the hub too.
+//!
+//! Read first: [`ServerCalls`], [`ShardCalls`], [`HubCalls`].
 #![tactic(auto)]
 
 mod hub;

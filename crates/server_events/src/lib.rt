@@ -1,5 +1,5 @@
-//! The events of a server that its operator wants to know, as values, and a list that keeps the events of one turn of the
-//! server's loop until the log takes them.
+//! The events of a server that its operator wants to know, as values, and a list that keeps the events of one turn
+//! of the server's loop until the log takes them.
 //!
 //! ```text
 //! let mut events = Events::new(alloc);
@@ -8,8 +8,9 @@
 //! sink.take(rt, server, &mut events);
 //! ```
 //!
-//! In reading order: `event` has the events and their causes, `kinds` says of which kind each is and how grave, `noted` keeps those of
-//! a turn, and `sink` is whoever takes them.
+//! Read first: [`Event`], [`Events`], [`EventSink`]. The files in reading order: `event` has the events and their
+//! causes, `kinds` says of which kind each is and how grave, `noted` keeps those of a turn, and `sink` is whoever
+//! takes them.
 #![tactic(auto)]
 
 mod event;

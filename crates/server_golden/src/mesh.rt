@@ -1,6 +1,6 @@
-//! Two servers that have just started, with streams in memory, and the calls of a case on them; the lanes of the first one take nothing for a while, as
-//! where there is no memory. What owns much is let go of by a call of [`drop`]: at the end of a function each of its parts would be proved to be let
-//! go of.
+//! Two servers that have just started, with streams in memory, and the calls of a case on them; the lanes of the first one take nothing for a while,
+//! as where there is no memory. What owns much is let go of by a call of [`drop`]: at the end of a function each of its parts would be proved to be
+//! let go of.
 
 ghost use Rattle.std.specs.Prelude.{⊤, ◌≡◌};
 

@@ -1,6 +1,6 @@
-//! A server that has just started, the calls of a case on it, and its report. Callers tell in their passes what they asked and were answered: each makes the
-//! calls of a list, and each call comes to what the list says. What owns much is let go of by a call of [`drop`]: at the end of a function each of its
-//! parts would be proved to be let go of.
+//! A server that has just started, the calls of a case on it, and its report. Callers tell in their passes what they asked and were answered: each
+//! makes the calls of a list, and each call comes to what the list says. What owns much is let go of by a call of [`drop`]: at the end of a function
+//! each of its parts would be proved to be let go of.
 
 ghost use Rattle.std.specs.Prelude.{◌≡◌};
 
@@ -135,8 +135,8 @@ static PEER: [Step; 8] = [
     ("connect", 1, Came::Done),
 ];
 
-/// A caller that is refused each call: no connection has the number 9, and no session stands; no job is there to drop; n1 is asked to dial itself, for
-/// frames to a server that is not there, and to receive a message that is for n2.
+/// A caller that is refused each call: no connection has the number 9, and no session stands; no job is there to drop; n1 is asked to dial itself,
+/// for frames to a server that is not there, and to receive a message that is for n2.
 static IN_VAIN: [Step; 14] = [
     ("headers", 1, Came::Refused),
     ("reply", 1, Came::Refused),

@@ -1,5 +1,5 @@
-//! One shard of a server: its connections with what waits for them, its open subscriptions, and the job
-//! that it works off.
+//! One shard of a server: its connections with what waits for them, its open subscriptions, and the job that it
+//! works off.
 //!
 //! ```text
 //! let mut shard: Shard<ListTable> = Shard::new(alloc, 1, 1)?;
@@ -9,13 +9,15 @@
 //! let entries = shard.take(conn, usize::MAX)?;
 //! ```
 //!
-//! In reading order: `shard` has the calls, `calls` their answers, and `shard/refusals` why they are refused; `connections` keeps the
-//! outboxes (`standings`: whether one has room), `openings` the open subscriptions; `delivery_buffer` is what Begin places, by
-//! `receiver_walk` where who receives the subject is noted (`receivers`); `queue_claim` with `members` is the choice of one member.
+//! Read first: [`Shard`], [`Openings`], [`Conns`]. The files in reading order: `shard` has the calls, `calls` their
+//! answers, and `shard/refusals` why they are refused; `connections` keeps the outboxes (`standings`: whether one
+//! has room), `openings` the open subscriptions; `delivery_buffer` is what Begin places, by `receiver_walk` where
+//! who receives the subject is noted (`receivers`); `queue_claim` with `members` is the choice of one member.
 //!
-//! A run of jobs of one subject goes to the same receivers, so [`Shard::deliver_run`] (`shard/runs`) delivers it at once, by
-//! `run_delivery`; `run_laws` says that this leaves what the jobs leave, worked one after the other. `claim_laws` speaks of jobs that claim
-//! one queue name, and `claim_run` works them ([`Shard::work_claims`], in `shard/claims`).
+//! A run of jobs of one subject goes to the same receivers, so [`Shard::deliver_run`] (`shard/runs`) delivers it at
+//! once, by `run_delivery`; `run_laws` says that this leaves what the jobs leave, worked one after the other.
+//! `claim_laws` speaks of jobs that claim one queue name, and `claim_run` works them ([`Shard::work_claims`], in
+//! `shard/claims`).
 #![tactic(auto)]
 
 mod calls;

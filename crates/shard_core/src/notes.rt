@@ -1,5 +1,5 @@
-//! What is noted of subjects: the receivers of some, for the jobs that come again, and the members of queue groups among those of one, for the claims of
-//! one job.
+//! What is noted of subjects: the receivers of some, for the jobs that come again, and the members of queue groups among those of one, for the claims
+//! of one job.
 
 ghost use Rattle.std.specs.Prelude.{List};
 ghost use Rattle.sub_table.specs.declared.Subscription.{Subscription as Opened};

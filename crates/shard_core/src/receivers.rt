@@ -12,8 +12,8 @@ use std::alloc::{AllocError, Global};
 use sub_table::Subscription;
 use subj::LentSubject;
 
-/// The most receivers of a subject that are noted. Where there are more they are looked up for each job: that costs little beside what is placed for so
-/// many.
+/// The most receivers of a subject that are noted. Where there are more they are looked up for each job: that costs little beside what is placed for
+/// so many.
 const MOST_RECEIVERS: usize = 128;
 
 /// The most bytes that the heads of their messages take together, as far as the subject tells.

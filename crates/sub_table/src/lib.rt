@@ -1,10 +1,13 @@
-//! The open subscriptions of a shard: the contract that every table of them keeps, and a plain list that keeps it.
+//! The open subscriptions of a shard: the trait that every table of them implements, and the simplest table, a
+//! list.
 //!
 //! ```text
 //! let mut table = ListTable::new(alloc)?;
 //! table.add(Subscription { serial: 1, conn, key, sid, delivered: 0, max: None })?;
 //! let found = table.matching(&subject.lent())?;
 //! ```
+//!
+//! Read first: [`Subscription`], [`SubTable`], [`ListTable`].
 #![tactic(auto)]
 
 ghost use Rattle.std.specs.Prelude.{◌≡◌, ◌<◌, ◌+◌, nat_le, [], ◌∷◌, ◌++◌, length, map, filter, position, IfOk, OnOk, OnErr, All};

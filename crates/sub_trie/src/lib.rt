@@ -7,8 +7,9 @@
 //! let found = table.matching(&subject.lent())?;
 //! ```
 //!
-//! In reading order: `table` is the table; `opened` has the open subscriptions with a trie of them, and `groups` the serials under a key,
-//! as those under one id of a connection; `recent` keeps in mind what subjects matched, in a `slot` each.
+//! Read first: [`TrieTable`]. The files in reading order: `table` is the table; `opened` has the open subscriptions
+//! with a trie of them, and `groups` the serials under a key, as those under one id of a connection; `recent` keeps
+//! in mind what subjects matched, in a `slot` each.
 #![tactic(auto)]
 
 mod groups;

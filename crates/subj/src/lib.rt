@@ -6,9 +6,10 @@
 //! assert!(rt; pattern.matches(&subject.lent()));
 //! ```
 //!
-//! In reading order: `limits` has every limit by its name; `names` and `scans` judge bytes, which `subjects`, `patterns`,
-//! `queue_names`, `sids` and `node_ids` keep; `keys`, `bodies`, `messages`, `identities`, `turns` and `jobs` are what the crates hand to one
-//! another; `servers` is who is in the cluster; `failures` is how a call fails, and `faults` why bytes are no name.
+//! Read first: [`Subject`], [`Message`], [`Job`]. The files in reading order: `limits` has every limit by its name;
+//! `names` and `scans` judge bytes, which `subjects`, `patterns`, `queue_names`, `sids` and `node_ids` keep;
+//! `keys`, `bodies`, `messages`, `identities`, `turns` and `jobs` are what the crates hand to one another;
+//! `servers` is who is in the cluster; `failures` is how a call fails, and `faults` why bytes are no name.
 #![tactic(auto)]
 
 mod bodies;

@@ -9,6 +9,8 @@
 //! ```
 //!
 //! All is definitions and laws: each law is a function with an empty body.
+//!
+//! Read first: [`legal_runs_are_once`].
 #![tactic(auto)]
 
 mod laws;

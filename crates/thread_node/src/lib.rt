@@ -8,14 +8,15 @@
 //! let (hub, shards) = node.into_locked();
 //! ```
 //!
-//! In reading order: `locked` is what stands under the locks, `node` the server: what it is made of, its locks and its threads, and how all of it
-//! drains; and `serving` are the calls that the connections of a server make while a lock is held. What is written down under a lock is `keeping`, of
-//! the entries in `hub_entries` and in `node_threads`.
+//! Read first: [`ThreadNode`], [`LockedShard`], [`LockedHub`]. The files in reading order: `locked` is what stands
+//! under the locks, `node` the server: what it is made of, its locks and its threads, and how all of it drains; and
+//! `serving` are the calls that the connections of a server make while a lock is held. What is written down under a
+//! lock is `keeping`, of the entries in `hub_entries` and in `node_threads`.
 //!
 //! No call here tells a caller's pass, and none ends a server with a report: `thread_report` does, above the same
-//! locks. It takes what it needs from here: the place of an entry on its tape (`entries_kept`), what is told of an answer,
-//! and at the end what stood under the locks (`into_locked`), of each its state and its tape, and of the hub also which
-//! server it is of (`into_parts`).
+//! locks. It takes what it needs from here: the place of an entry on its tape (`entries_kept`), what is told of an
+//! answer, and at the end what stood under the locks (`into_locked`), of each its state and its tape, and of the
+//! hub also which server it is of (`into_parts`).
 #![tactic(auto)]
 
 mod hub_entries;

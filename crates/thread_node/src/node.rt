@@ -1,5 +1,5 @@
-//! A server on threads: what it is made of, its hub and its shards, each under a lock of its own, the calls that take a lock, make one call and give its
-//! answer, how all of it drains, and the threads that work lanes.
+//! A server on threads: what it is made of, its hub and its shards, each under a lock of its own, the calls that take a lock, make one call and give
+//! its answer, how all of it drains, and the threads that work lanes.
 
 ghost use Rattle.std.specs.Prelude.{◌≡◌, ◌+◌, ◌≤◌, ◌<◌, [], All, map, length, vec_len, IfOk, IfSome, OnOk, is_some, true};
 ghost use Rattle.std.specs.Arc.{arc_value};

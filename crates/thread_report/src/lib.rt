@@ -11,12 +11,13 @@
 //!
 //! A server (`thread_node`) needs none of it to run: a caller that wants no report makes the server's own calls.
 //!
-//! In reading order: `passes` is what a caller asked and was told, with the server's calls that tell it to a pass
-//! (`hub_calls`, `shard_calls`), `hub_lists` and `shard_lists` what a pass keeps of an answer and lends, and `asking` the
-//! events that it keeps. `report` is the end, and `issued` names the publications that it tells of. That what was written
-//! down is what callers were told is seen by `asked`, `passes_told`, `same` and `order`, with `hub_replay` and
-//! `shard_replay`, which do again what stands on the tapes; that the hub was handed what the shards gave is seen by
-//! `handing`. `laws` says that what is done again is what the run did. `faults` says why there is no report.
+//! Read first: [`Pass`], [`Report`], [`Unfinished`]. The files in reading order: `passes` is what a caller asked
+//! and was told, with the server's calls that tell it to a pass (`hub_calls`, `shard_calls`), `hub_lists` and
+//! `shard_lists` what a pass keeps of an answer and lends, and `asking` the events that it keeps. `report` is the
+//! end, and `issued` names the publications that it tells of. That what was written down is what callers were told
+//! is seen by `asked`, `passes_told`, `same` and `order`, with `hub_replay` and `shard_replay`, which do again what
+//! stands on the tapes; that the hub was handed what the shards gave is seen by `handing`. `laws` says that what is
+//! done again is what the run did. `faults` says why there is no report.
 #![tactic(auto)]
 
 mod asked;

@@ -1,5 +1,5 @@
-//! Tells whether two values are the same: keys, messages and numbered frames, which own their bytes and have no `==`, and lines of
-//! clients and of routes.
+//! Tells whether two values are the same: keys, messages and numbered frames, which own their bytes and have no
+//! `==`, and lines of clients and of routes.
 //!
 //! ```text
 //! let copy = key.try_clone(alloc)?;

@@ -1,5 +1,5 @@
-//! Cuts a stream of bytes into lines and payloads; its traits [`Source`] and [`Sink`] are where bytes come from and go
-//! to.
+//! Cuts a stream of bytes into lines and payloads; its traits [`Source`] and [`Sink`] are where bytes come from and
+//! go to.
 //!
 //! ```text
 //! let mut cutter = Cutter::new(alloc, 4_096, 1_048_576);
@@ -9,8 +9,9 @@
 //! }
 //! ```
 //!
-//! In reading order: `piece` and `faults` are what a cutter gives, `window` is its buffer, and `cutter` cuts. `source` and `sink` are
-//! where bytes come from and go to, in memory (`mem_source`, `mem_sink`) or over `std` (`raw`).
+//! Read first: [`Cutter`], [`Piece`], [`Source`]. The files in reading order: `piece` and `faults` are what a
+//! cutter gives, `window` is its buffer, and `cutter` cuts. `source` and `sink` are where bytes come from and go
+//! to, in memory (`mem_source`, `mem_sink`) or over `std` (`raw`).
 #![tactic(auto)]
 
 mod count;

@@ -1,5 +1,6 @@
-//! The exact cluster as definitions: servers that start and stop, the frames that they send to each other, and what was published,
-//! subscribed and placed, found by comparing each server before and after a step; and what holds of every step and of every run.
+//! The exact cluster as definitions: servers that start and stop, the frames that they send to each other, and what
+//! was published, subscribed and placed, found by comparing each server before and after a step; and what holds of
+//! every step and of every run.
 //!
 //! ```text
 //! // A function that calls a law is proved with what the law says.
@@ -8,7 +9,8 @@
 //!
 //! Each law is a function with an empty body. In code are only the refusals.
 //!
-//! In reading order: `laws` are those over runs, and `values` those that a cluster as a value can say of itself.
+//! Read first: [`publications_are_placed_once`]. The files in reading order: `laws` are those over runs, and
+//! `values` those that a cluster as a value can say of itself.
 #![tactic(auto)]
 
 mod faults;

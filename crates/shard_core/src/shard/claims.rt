@@ -12,10 +12,10 @@ impl<T: SubTable> Shard<T> {
     /// Works as many of these jobs as it can in one call, from the first on: each as by [`Shard::begin`], [`Shard::candidate`] and
     /// [`Shard::place`] for its queue name, and [`Shard::end`]. Gives how many jobs these were.
     ///
-    /// None where the first one has to go that way: where a job is in hand, or the turn is not the one behind the last that was
-    /// finished; where it claims no queue name or several, has a header block or a long payload; where many receive its subject, or one of
-    /// these has no queue name, or is a member with a maximum, with a long id or with little room; and for want of memory. Required: the seat is of this race, its shard has finished what this one has, has claimed nothing since, and has seen that
-    /// a turn is issued for each of these jobs.
+    /// None where the first one has to go that way: where a job is in hand, or the turn is not the one behind the last that was finished; where it
+    /// claims no queue name or several, has a header block or a long payload; where many receive its subject, or one of these has no queue name, or
+    /// is a member with a maximum, with a long id or with little room; and for want of memory. Required: the seat is of this race, its shard has
+    /// finished what this one has, has claimed nothing since, and has seen that a turn is issued for each of these jobs.
     pub fn work_claims<S, C: Claims<S>>(
         &mut self,
         jobs: &JobSlice<'_>,

@@ -25,10 +25,10 @@ impl<T: SubTable> Shard<T> {
     /// messages of the run together, which leaves what [`Shard::begin`] and [`Shard::end`] of one job after the other leave, with
     /// nothing closed. Gives how many jobs these were.
     ///
-    /// None where the first one has to go that way: where a job is in hand, or the turn is not the one behind the last that was
-    /// finished; where it claims a queue name, or has a header block, or a long payload that anyone receives. None either where many receive its
-    /// subject, or one of the receivers has a maximum, or its connection is shut, has no room for the whole run, or has another receiver of it. Want of memory
-    /// leaves the state as it was.
+    /// None where the first one has to go that way: where a job is in hand, or the turn is not the one behind the last that was finished; where it
+    /// claims a queue name, or has a header block, or a long payload that anyone receives. None either where many receive its subject, or one of the
+    /// receivers has a maximum, or its connection is shut, has no room for the whole run, or has another receiver of it. Want of memory leaves the
+    /// state as it was.
     pub fn deliver_run(&mut self, jobs: &JobSlice<'_>) -> Result<usize, AllocError>
         ensures ok { IfOk result (λ count. DeliversRun jobs.now count self.old self.new) }
         ensures err { OnErr result (IsLeft self.old self.new) }
