@@ -17,7 +17,7 @@ LOAD = os.path.join(TOP, "bench", "load")
 LOAD_TARGET = os.path.join(LOAD, "target")
 
 # A line of the launcher that gives a variable to the program, where its environment has none of this name.
-GIVEN = re.compile(r'^export (\w+)="\$\{\1:-(\w+)\}"$', re.MULTILINE)
+GIVEN = re.compile(r'^export (\w+)="\$\{\1:-([\w.=]+)\}"$', re.MULTILINE)
 
 # How long servers may take to start, in seconds.
 START_PATIENCE = 20
