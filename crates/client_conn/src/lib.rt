@@ -11,8 +11,9 @@
 //! The asks are a function of the bytes and of the answers, however the bytes were cut
 //! (`asks_follow_bytes_and_answers`).
 //!
-//! Read first: [`ClientAction`], [`Conn`], [`Refusal`]. The files in reading order: `ask` is what is asked; `conn`
-//! reads the items of a stream, asks for what they want, and is the connection; `faults` has why it reads no bytes.
+//! Read first: [`ClientAction`], [`Conn`], [`Refusal`]. The files in reading order: `ask` is what is asked;
+//! `open_asks` keeps the asks that wait for their answers; `conn` reads the items of a stream, asks for what they
+//! want, and is the connection; `faults` has why it reads no bytes.
 #![tactic(auto)]
 
 mod ask;
