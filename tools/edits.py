@@ -4,6 +4,8 @@ Usage: tools/dev edits CRATE..               those of these crates, each alone
        tools/dev edits --all                 those of every crate, with a line for each crate and a summary at the end
        tools/dev edits --together CRATE..    those of these crates, one in each function at a time; those that are not refused at their own function
                                              are to be tried alone
+       tools/dev edits --stand               tries none, and tells which can't be applied since the code has changed: `rt` takes an edit only if each
+                                             text that it replaces stands just once in its file
 
 Each edit that is tried alone costs as much as the proof of what it changes, and the first of a crate as much as the crate. So the gate tries those of a
 few crates whose proofs are cheap, and the others stand beside it (docs/DECISIONS.md). While they are tried they stand as `.edit` files, which go at the
@@ -31,6 +33,41 @@ def names_of(crate, ending):
     folder = os.path.join(folder_of(crate), "must-fail")
     names = sorted(os.listdir(folder)) if os.path.isdir(folder) else []
     return [os.path.join(folder, name) for name in names if name.endswith(ending)]
+
+
+def fault_of(path, crate):
+    """Why an edit can't be applied, or nothing."""
+    texts, name, old = {}, None, None
+    with open(path, encoding="utf-8") as file:
+        lines = file.read().split("\n")
+    for line in lines:
+        if line.startswith("file: "):
+            name = os.path.join(folder_of(crate), line.removeprefix("file: ").strip())
+            if not os.path.isfile(name):
+                return f"there is no {name}"
+            if name not in texts:
+                with open(name, encoding="utf-8") as file:
+                    texts[name] = file.read()
+        elif line.startswith("old: "):
+            old = line.removeprefix("old: ")
+        elif line.startswith("new:"):
+            if texts[name].count(old) != 1:
+                return f"stands {texts[name].count(old)} times in {os.path.relpath(name, TOP)}: {old.strip()}"
+            texts[name] = texts[name].replace(old, line.removeprefix("new:").removeprefix(" "))
+    return None
+
+
+def tell_faults(crates):
+    """Tells of each edit that can't be applied. Gives the status to end with."""
+    count, faults = 0, 0
+    for crate in crates:
+        for path in names_of(crate, TRIED) + names_of(crate, BESIDE):
+            count, fault = count + 1, fault_of(path, crate)
+            if fault:
+                faults += 1
+                print(f"{os.path.relpath(path, TOP)}: {fault}")
+    print(f"{count - faults} of {count} wrong bodies can be applied")
+    return 1 if faults else 0
 
 
 class InTheGate:
@@ -84,6 +121,8 @@ def main(words):
     crates = list(lines_of_crates())
     if len(words) > 1 and words[0] == "--together" and all(word in crates for word in words[1:]):
         return try_all_together(words[1:])
+    if words == ["--stand"]:
+        return tell_faults(crates)
     if words == ["--all"]:
         chosen = [crate for crate in crates if names_of(crate, BESIDE) or names_of(crate, TRIED)]
     elif words and all(word in crates for word in words):
