@@ -163,10 +163,15 @@ class Servers:
         return self.descriptors() - before
 
 
-def nats_mesh(program, count, settings=None):
-    """So many servers of nats_mesh, in one process, with these settings in its environment and what the launcher puts there."""
+def loop_words(loops):
+    """What a command line of `serve` says so that each server has so many loops, and no fewer shards."""
+    return [] if loops == 1 else ["--loops", str(loops), "--shards", str(max(2, loops))]
+
+
+def nats_mesh(program, count, settings=None, loops=1):
+    """So many servers of nats_mesh, in one process, with so many loops each, with these settings in its environment and what the launcher puts there."""
     first = free_ports(2 * count)
-    command = [program, "serve", "--nodes", str(count), "--port", str(first)]
+    command = [program, "serve", "--nodes", str(count), "--port", str(first), *loop_words(loops)]
     return Servers([command], [first + place for place in range(count)], {**given_variables(), **(settings or {})})
 
 

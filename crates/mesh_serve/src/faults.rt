@@ -130,6 +130,8 @@ pub enum NodeFault {
     NoMesh(MeshFault),
     /// The file has no server of this name.
     NotInMesh(NodeId),
+    /// The server would have more loops than shards, of which the file gives it so many.
+    TooManyLoops { shards: u64 },
     /// The file of the mesh names one that has no secret that is taken.
     Secret(SecretFileFault),
     /// The folder of the server's incarnation is not to be had.
@@ -150,6 +152,7 @@ impl NodeFault {
             NodeFault::Unread(_)
                 | NodeFault::NoMesh(_)
                 | NodeFault::NotInMesh(_)
+                | NodeFault::TooManyLoops { .. }
                 | NodeFault::Secret(_)
         )
     }
@@ -162,6 +165,12 @@ impl Display for NodeFault {
             NodeFault::NoMesh(fault) => write!(f, "the file of the mesh: {fault}"),
             NodeFault::NotInMesh(name) => {
                 write!(f, "the file of the mesh has no server {}", name.text())
+            }
+            NodeFault::TooManyLoops { shards } => {
+                write!(
+                    f,
+                    "--loops is above the shards of the mesh, {shards}: each loop has a shard of its own"
+                )
             }
             NodeFault::Secret(fault) => write!(f, "the secret_file of the mesh: {fault}"),
             NodeFault::Folder(fault) => Display::fmt(fault, f),

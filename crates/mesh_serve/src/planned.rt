@@ -48,6 +48,8 @@ pub(crate) struct Plan {
 pub(crate) struct Orders<'a> {
     /// After how many clients they end, where they do.
     pub stop_after: Option<u64>,
+    /// How many loops share the shards of each.
+    pub loops: u64,
     /// How many seconds a drain may take.
     pub drain_seconds: u64,
     /// Which events standard error tells.
@@ -61,6 +63,7 @@ impl<'a> Orders<'a> {
     pub fn of(options: &Options<'a>) -> Orders<'a> {
         Orders {
             stop_after: options.stop_after,
+            loops: options.loops,
             drain_seconds: options.drain_seconds,
             log_level: options.log_level,
             control: options.control,
@@ -71,6 +74,7 @@ impl<'a> Orders<'a> {
     pub fn of_node(options: &NodeOptions<'a>) -> Orders<'a> {
         Orders {
             stop_after: None,
+            loops: options.loops,
             drain_seconds: options.drain_seconds,
             log_level: options.log_level,
             control: options.control,

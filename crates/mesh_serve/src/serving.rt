@@ -1,42 +1,36 @@
-//! Servers of one process, each in a thread of its own, and what is done at the start of a process: its sockets are bound, and the names of other
-//! servers' hosts are looked up.
+//! What is done at the start of a process that serves: its sockets are bound, the names of other servers' hosts are looked up, and its servers run.
 //!
 //! A name is looked up in a thread of its own, as long as the process runs, so that no server waits for a name. These threads end with the process:
 //! nobody waits for a look-up.
 
-ghost use Rattle.std.specs.Prelude.{◌≡◌};
 ghost use Rattle.router_command.specs.Ranges.{AreWithin};
 
 use crate::control::{bind_control, remove_control};
 use crate::faults::{NodeFault, SecretFileFault, ServeFault};
 use crate::planned::{Ends, Orders, Plan, PlannedServer, is_of_host, plan_at, plan_of, ready_text};
+use crate::running::run_all;
 use event_log::EventLog;
 use incarnation_file::{FileDisk, raise};
 use mesh_file::{MeshFile, RouteAddress, RouteHost};
 use mio::net::TcpListener;
 use mio::{Poll, Waker};
-use node_net::{
-    Control, PeerAddresses, Server as Connections, ServerControl, Shutdown, Sockets, WAKER,
-};
+use node_net::{Control, LoopWord, PeerAddresses, ServerControl, Shutdown, Sockets, WAKER};
 use peer_proof::{MOST_SECRET, Secret};
 use router_command::{NodeOptions, Options};
-use server_calls::ServerCalls;
-use server_events::{Event, SystemCause};
+use server_calls::LoopPlace;
+use server_events::Event;
 use std::alloc::{AllocError, Global};
 use std::fs::{File, Files};
 use std::io::Read;
-use std::marker::Brand;
 use std::net::{Net, SocketAddr, TcpListener as Listener, TcpStream as Stream, ToSocketAddrs};
 use std::os::unix::fs::MetadataExt;
 use std::random::RandomSource;
 use std::rt::Clock;
-use std::sync::{Arc, OnceLock, Wait};
+use std::sync::{Arc, Wait};
 use std::thread::Threads;
 use std::time::Duration;
 use std::{fs, io, thread};
-use sub_trie::TrieTable;
 use subj::{HostText, Incarnation, NodeId, ServerIdentity};
-use thread_node::{NodeName, Parts, ThreadNode};
 
 /// The bits of a file's mode that let its group or others read, write or run it.
 const SHARED: u32 = 0o077;
@@ -52,17 +46,28 @@ const SHORTEST_PAUSE: u64 = 1;
 
 /// A server before it runs.
 #[derive(Drop)]
-struct BoundServer {
-    planned: PlannedServer,
-    sockets: Sockets,
+pub(crate) struct BoundServer {
+    pub planned: PlannedServer,
+    /// Which loop polls the sockets: its first one.
+    pub first: LoopPlace,
+    pub sockets: Sockets,
+    /// What each of its other loops polls.
+    pub sides: Vec<SidePoll>,
+}
+
+/// A loop that is not the first of its server's, and what it polls.
+#[derive(Drop)]
+pub(crate) struct SidePoll {
+    pub place: LoopPlace,
+    pub poll: Poll,
 }
 
 /// What the threads of a process share while one of them runs.
-struct Shared {
+pub(crate) struct Shared {
     /// Where other servers are reached, and whence they come.
-    addresses: PeerAddresses,
+    pub addresses: PeerAddresses,
     /// When the servers of the process stop.
-    shutdown: Shutdown,
+    pub shutdown: Shutdown,
 }
 
 /// One call, also for crates above: `docs/PROVING.md`, "What a proof costs".
@@ -81,18 +86,6 @@ struct BoundMesh {
     servers: Vec<BoundServer>,
     routes: Vec<RouteAddress>,
     shared: Arc<Shared>,
-}
-
-/// What the servers of a mesh share.
-#[derive(Clone, Copy)]
-struct Mesh<'a> {
-    /// Where other servers connect to each server.
-    addresses: &'a PeerAddresses,
-    shutdown: &'a Shutdown,
-    /// Why all of them stop, where one could not go on: the first cause.
-    cause: &'a OnceLock<ServeFault>,
-    /// What tells of them.
-    log: &'a EventLog,
 }
 
 /// A server of the mesh whose host has a name.
@@ -124,26 +117,64 @@ fn sockets<R: Net>(rt: &R, ends: Ends) -> Result<Sockets, ServeFault> {
     })
 }
 
-/// Puts a server behind the others, with its sockets bound.
+/// The loop at this place, of so many.
+fn loop_at(place: u64, loops: u64) -> Result<LoopPlace, ServeFault> {
+    match LoopPlace::new(place, loops) {
+        Some(place) => Ok(place),
+        None => Err(ServeFault::NoCluster),
+    }
+}
+
+/// What each loop of a server polls but the first, where there are so many.
+fn side_polls<R: Net>(rt: &R, alloc: Global, loops: u64) -> Result<Vec<SidePoll>, ServeFault> {
+    let mut all = Vec::new(alloc);
+    for place in 1..loops {
+        let place = loop_at(place, loops)?;
+        let poll = Poll::new(rt)?;
+        all.push(SidePoll { place, poll })?;
+    }
+    Ok(all)
+}
+
+/// What wakes the loops of a server.
+fn words(alloc: Global, server: &BoundServer) -> Result<Vec<LoopWord>, ServeFault> {
+    let mut all = Vec::new(alloc);
+    all.push(LoopWord::new(Waker::new(server.sockets.poll.registry(), WAKER)?))?;
+    for side in &server.sides {
+        all.push(LoopWord::new(Waker::new(side.poll.registry(), WAKER)?))?;
+    }
+    Ok(all)
+}
+
+/// Puts a server of so many loops behind the others, with its sockets bound.
 fn push_bound<R: Net>(
     all: &mut Vec<BoundServer>,
     rt: &R,
     planned: PlannedServer,
+    loops: u64,
 ) -> Result<(), ServeFault> {
+    let first = loop_at(0, loops)?;
     let sockets = sockets(rt, planned.ends)?;
-    all.push(BoundServer { planned, sockets })?;
+    let sides = side_polls(rt, *all.allocator(), loops)?;
+    all.push(BoundServer {
+        planned,
+        first,
+        sockets,
+        sides,
+    })?;
     Ok(())
 }
 
-/// These servers, with their sockets bound.
+/// These servers, of so many loops each, with their sockets bound.
 fn bound_servers<R: Net>(
     rt: &R,
     alloc: Global,
     planned: Vec<PlannedServer>,
+    loops: u64,
 ) -> Result<Vec<BoundServer>, ServeFault> {
     let mut all = Vec::new(alloc);
     for server in planned {
-        push_bound(&mut all, rt, server)?;
+        push_bound(&mut all, rt, server, loops)?;
     }
     Ok(all)
 }
@@ -152,8 +183,7 @@ fn bound_servers<R: Net>(
 fn controls(alloc: Global, servers: &[BoundServer]) -> Result<Vec<ServerControl>, ServeFault> {
     let mut all = Vec::new(alloc);
     for server in servers {
-        let waker = Waker::new(server.sockets.poll.registry(), WAKER)?;
-        all.push(ServerControl::new(waker))?;
+        all.push(ServerControl::new(words(alloc, server)?))?;
     }
     Ok(all)
 }
@@ -165,7 +195,7 @@ fn servers_to_wake<R: Net>(
     planned: Vec<PlannedServer>,
     orders: Orders<'_>,
 ) -> Result<(Vec<BoundServer>, Shutdown), ServeFault> {
-    let servers = bound_servers(rt, alloc, planned)?;
+    let servers = bound_servers(rt, alloc, planned, orders.loops)?;
     let controls = controls(alloc, &servers)?;
     let mut shutdown = Shutdown::new(orders.stop_after, controls);
     shutdown.set_drain_seconds(orders.drain_seconds);
@@ -400,102 +430,6 @@ fn look_up_names<
     Ok(())
 }
 
-impl Mesh<'_> {
-    /// All servers stop, for this cause where there was none before.
-    fn stop<R: Wait>(&self, rt: &R, cause: ServeFault) {
-        let _ = self.cause.set(rt, cause);
-        self.shutdown.fail();
-    }
-
-    /// The server of this name ended so. Where it could not go on, all of them stop.
-    fn hear_end<R: Wait + Clock>(&self, rt: &R, server: NodeId, ended: io::Result<()>) {
-        match ended {
-            Ok(()) => self.log.tell(rt, server, Event::Stopped),
-            Err(error) => {
-                let cause = SystemCause::of(&error);
-                self.log.tell(rt, server, Event::Failed { cause });
-                self.stop(rt, ServeFault::Stopped { server, error });
-            }
-        }
-    }
-}
-
-/// Runs the connections of a server.
-fn run_connections<
-    C: ServerCalls,
-    R: Wait + Net<Listener = Listener, Stream = Stream> + RandomSource + Clock,
->(rt: &R, alloc: Global, node: C, server: BoundServer, mesh: Mesh<'_>) -> io::Result<()> {
-    let BoundServer { planned, sockets } = server;
-    let PlannedServer {
-        life,
-        ends,
-        host,
-        word,
-        secret,
-    } = planned;
-    let mut connections = Connections::new(alloc, node, life, host, ends.clients.port(), word)?;
-    if let Some(secret) = secret {
-        connections.set_secret(secret);
-    }
-    connections.run(rt, sockets, mesh.addresses, mesh.shutdown, mesh.log)
-}
-
-/// Runs a server of these parts.
-fn run_named<
-    N: NodeName,
-    R: Wait + Net<Listener = Listener, Stream = Stream> + RandomSource + Clock,
->(rt: &R, alloc: Global, parts: Parts, server: BoundServer, mesh: Mesh<'_>) -> io::Result<()>
-    requires { (parts.race ≡ N.race) × (parts.lanes ≡ N.lanes) × (parts.keep ≡ N.keep) }
-{
-    let node: ThreadNode<TrieTable, N> = ThreadNode::start(alloc, parts)?;
-    run_connections(rt, alloc, &node, server, mesh)
-}
-
-/// Runs a server.
-fn run_server<R: Wait + Net<Listener = Listener, Stream = Stream> + RandomSource + Clock>(
-    rt: &R,
-    alloc: Global,
-    server: BoundServer,
-    mesh: Mesh<'_>,
-) -> io::Result<()> {
-    let life = server.planned.life.try_clone(alloc)?;
-    let (parts, _parkers) = Parts::new(alloc, life, false)?;
-    run_named::<Brand, _>(rt, alloc, parts, server, mesh)
-}
-
-/// Runs all servers, each in a thread of its own. The error is the first cause for which they stop.
-fn run_all<
-    'm,
-    R: Threads + Wait + Net<Listener = Listener, Stream = Stream> + RandomSource + Clock + Sync,
->(
-    rt: &R,
-    alloc: Global,
-    servers: Vec<BoundServer>,
-    shared: &'m Shared,
-    log: &'m EventLog,
-) -> Result<(), ServeFault> {
-    let cause = OnceLock::new();
-    let mesh = Mesh {
-        addresses: &shared.addresses,
-        shutdown: &shared.shutdown,
-        cause: &cause,
-        log,
-    };
-    thread::scope(thread::scope_env(), rt, |scope| {
-        for server in servers {
-            let name = server.planned.life.name();
-            let run = move || mesh.hear_end(rt, name, run_server(rt, alloc, server, mesh));
-            if scope.spawn(run).is_err() {
-                mesh.stop(rt, ServeFault::NoThread { server: name });
-            }
-        }
-    });
-    match cause.into_inner() {
-        Some(cause) => Err(cause),
-        None => Ok(()),
-    }
-}
-
 /// Tells on standard output that all servers can be reached, a line each, and then the log where each listens.
 fn tell_ready<R: Wait + Clock + Print>(
     rt: &R,
@@ -572,7 +506,7 @@ where
     ended
 }
 
-/// Serves the servers of a plan, each in a thread of its own. They take what operators say where a path is given, whose file is gone at the end.
+/// Serves the servers of a plan, each in threads of its own. They take what operators say where a path is given, whose file is gone at the end.
 fn serve_plan<R>(rt: &R, alloc: Global, plan: Plan, orders: Orders<'_>) -> Result<(), ServeFault>
 where
     R: Threads
@@ -705,6 +639,10 @@ fn next_life<'a, R: Net + Files<File = File> + Print + Eprint + Alloc<A = Global
     let Some(place) = mesh.place_of(options.name) else {
         return Err(NodeFault::NotInMesh(options.name));
     };
+    let shards = mesh.shards();
+    if options.loops > shards {
+        return Err(NodeFault::TooManyLoops { shards });
+    }
     let secret = secret_of(rt, alloc, mesh)?;
     let mut disk = FileDisk::open(rt, options.state)?;
     let inc = raise(alloc, &mut disk, options.name, options.least_inc)?;

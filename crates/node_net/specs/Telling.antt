@@ -1,5 +1,5 @@
 -- What another server is told.
-use Rattle.std.specs.Prelude.{◌≡◌, ◌⊎◌, ℕ, zero, suc, List, [], ◌∷◌, ◌++◌, Option, Some, None, MatchOption}
+use Rattle.std.specs.Prelude.{◌≡◌, ◌⊎◌, ℕ, zero, suc, Bool, true, false, not, List, [], ◌∷◌, ◌++◌, Option, Some, None, MatchOption}
 use Rattle.slab.specs.Slab.{Slab, get}
 use Rattle.net_streams.specs.Writes.{Came}
 use Rattle.route_values.specs.Frames.{Frame}
@@ -8,9 +8,10 @@ use Rattle.route_frames.specs.Canonical.{frame_bytes}
 use Rattle.server_calls.specs.Routed.{Routed, took, WasRouted}
 use Rattle.node_net.specs.Keyed.{ChangesAt, Behind}
 use Rattle.node_net.specs.Routes.{kept_place}
-use Rattle.node_net.specs.Sending.{ending_of, Sends, out_of_memory, IsNoted, IsGivenUpFor}
+use Rattle.node_net.specs.Sending.{ending_of, Sends, SendsWhole, out_of_memory, IsNoted, IsGivenUpFor}
 use Rattle.node_net.specs.declared.connection.Connection.{Connection}
 use Rattle.node_net.specs.declared.connection.Ending.TheVariants.{Gone}
+use Rattle.node_net.specs.declared.loops.Mail.{Mail}
 use Rattle.node_net.specs.declared.connection.Link.{Link}
 use Rattle.node_net.specs.declared.connection.Link.TheVariants as link
 
@@ -37,46 +38,70 @@ abbrev pub spelling : List Frame → List ℕ
 spelling [] = []
 spelling (frame ∷ frames) = frame_bytes (Numbered frame) ++ spelling frames
 
--- Frames are sent to a connection as their spelling; or there was no memory for that, and it is
--- given up and is sent nothing more.
-abbrev pub SendsFrames : {S : Type 0} → (S → Came → S → Type 0) → (S → Came → S → Type 0)
+-- Frames are sent to a connection as their spelling, behind what stood in the mail; or there was no
+-- memory for that, and it is given up and is sent nothing more.
+abbrev pub SendsFrames : {S : Type 0} → (S → Came → S → Type 0) → (S → Came → S → Type 0) → List ℕ
     → List Frame → Connection S → Connection S → Type 0
-SendsFrames gave wrote frames old new =
-    Sends gave wrote old (spelling frames) new ⊎ (new ≡ out_of_memory old)
+SendsFrames gave wrote before frames old new =
+    Sends gave wrote old (before ++ spelling frames) new ⊎ (new ≡ out_of_memory old)
 
--- Frames are sent to the connection at this key, and nothing to any other one. Where there are
--- none, nothing may change.
+-- They are sent so to the connection at this key, and nothing to any other one. Where there is
+-- nothing to be sent, nothing may change.
 abbrev pub TellsFrames : {S : Type 0} → (S → Came → S → Type 0) → (S → Came → S → Type 0) → ℕ
-    → List Frame → Slab (Connection S) → Slab (Connection S) → Type 0
-TellsFrames gave wrote key frames old new =
-    ((frames ≡ []) × (new ≡ old))
-    ⊎ ChangesAt (Behind (SendsFrames gave wrote frames) IsNoted) key old new
+    → List ℕ → List Frame → Slab (Connection S) → Slab (Connection S) → Type 0
+TellsFrames gave wrote key before frames old new =
+    ((before ++ spelling frames ≡ []) × (new ≡ old))
+    ⊎ ChangesAt (Behind (SendsFrames gave wrote before frames) IsNoted) key old new
 
 -- Under one hold of the hub at most so many frames are taken that wait for the server at this
--- place, and just these are sent to the connection at this key.
-pub record TellsSome {H S : Type 0} (routed : H → Routed → H → Type 0)
-    (gave wrote : S → Came → S → Type 0) (peer count key : ℕ) (old new : Slab (Connection S)) :
-    Type 0 where
+-- place, and stand, spelt, behind what stood in its mail. Where there was no memory for that, the
+-- mail says so.
+pub record PostsSome {H : Type 0} (routed : H → Routed → H → Type 0) (peer count : ℕ)
+    (old new : Mail) : Type 0 where
   pub frames : List Frame
   pub taken : WasRouted routed (took peer count frames)
-  pub told : TellsFrames gave wrote key frames old new
+  pub spelt :
+      new.is_lost ≡ false → new.bytes.items ≡ old.bytes.items ++ spelling frames
+
+-- What stands in the mail is sent to the connection at this key, and nothing to any other one; or
+-- some are lost, and the connection is given up and is sent nothing more. Where nothing stands
+-- there, nothing may change.
+abbrev pub SendsMail : {S : Type 0} → (S → Came → S → Type 0) → (S → Came → S → Type 0) → ℕ → Mail
+    → Slab (Connection S) → Slab (Connection S) → Type 0
+SendsMail gave wrote key mail old new =
+    ((mail.is_lost ≡ false) × (mail.bytes.items ≡ []) × (new ≡ old))
+    ⊎ ChangesAt (Behind (SendsWhole gave wrote mail.bytes.items (not mail.is_lost)) IsNoted) key old
+    new
+
+-- Under one hold of the hub at most so many frames are taken that wait for the server at this
+-- place. Just these are sent to the connection at this key, behind what other loops have put into
+-- the server's mail, where there are other loops.
+pub record TellsSome {H S : Type 0} (routed : H → Routed → H → Type 0)
+    (gave wrote : S → Came → S → Type 0) (is_alone : Bool) (peer count key : ℕ)
+    (old new : Slab (Connection S)) : Type 0 where
+  pub before : List ℕ
+  pub frames : List Frame
+  pub alone : is_alone ≡ true → before ≡ []
+  pub taken : WasRouted routed (took peer count frames)
+  pub told : TellsFrames gave wrote key before frames old new
 
 -- That is done so many times in a row, each time while that server is reached over that connection.
 abbrev pub TellsMany : {H S : Type 0} → (H → Routed → H → Type 0) → (S → Came → S → Type 0)
-    → (S → Came → S → Type 0) → ℕ → ℕ → Slab (Connection S) → ℕ → Slab (Connection S) → Type 0
-TellsMany routed gave wrote peer key old zero new = new ≡ old
-TellsMany {H} {S} routed gave wrote peer key old (suc rounds) new =
+    → (S → Came → S → Type 0) → Bool → ℕ → ℕ → Slab (Connection S) → ℕ → Slab (Connection S)
+    → Type 0
+TellsMany routed gave wrote is_alone peer key old zero new = new ≡ old
+TellsMany {H} {S} routed gave wrote is_alone peer key old (suc rounds) new =
     (mid : Slab (Connection S))
     × (count : ℕ)
-    × TellsMany routed gave wrote peer key old rounds mid
+    × TellsMany routed gave wrote is_alone peer key old rounds mid
     × ReachesAt peer key mid
-    × TellsSome routed gave wrote peer count key mid new
+    × TellsSome routed gave wrote is_alone peer count key mid new
 
 -- That is done any number of times; and then the connection may be given up.
 pub record TellsPeer {H S : Type 0} (routed : H → Routed → H → Type 0)
-    (gave wrote : S → Came → S → Type 0) (peer key : ℕ) (old new : Slab (Connection S)) : Type 0
-  where
-    pub rounds : ℕ
-    pub mid : Slab (Connection S)
-    pub many : TellsMany routed gave wrote peer key old rounds mid
-    pub ends : (new ≡ mid) ⊎ ChangesAt IsGivenUpFor key mid new
+    (gave wrote : S → Came → S → Type 0) (is_alone : Bool) (peer key : ℕ)
+    (old new : Slab (Connection S)) : Type 0 where
+  pub rounds : ℕ
+  pub mid : Slab (Connection S)
+  pub many : TellsMany routed gave wrote is_alone peer key old rounds mid
+  pub ends : (new ≡ mid) ⊎ ChangesAt IsGivenUpFor key mid new

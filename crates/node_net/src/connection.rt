@@ -125,6 +125,9 @@ pub(crate) struct Connection<S: Stream> {
     pub hangs_up: bool,
     /// Whether what was read waits for memory.
     pub is_short: bool,
+    /// Whether it is held until a shard has finished a turn, and whether it stands among those that are.
+    pub is_held: bool,
+    pub stands_held: bool,
     /// Whether it is to be served in the next turn, although nothing may tell of it.
     pub stands_again: bool,
     /// The turn in which it was served last, counted from 1.
@@ -168,6 +171,8 @@ impl<S: Stream> Connection<S> {
             has_more: false,
             hangs_up: false,
             is_short: false,
+            is_held: false,
+            stands_held: false,
             stands_again: false,
             served_in: 0,
             is_leaving: false,
@@ -238,6 +243,12 @@ impl<S: Stream> Connection<S> {
             self.has_more = false;
         }
         came.unwrap_or(0)
+    }
+
+    /// It is held: it is read again once it is not.
+    pub fn hold(&mut self) {
+        self.is_held = true;
+        self.has_more = true;
     }
 
     /// Its buffers are given back at this time, where one may be large, unless this is told again before.
@@ -328,12 +339,12 @@ impl<S: Stream> Connection<S> {
 
     /// Whether it goes on, with something to be done although nothing may tell of it.
     pub fn goes_on(&self) -> bool {
-        self.ending() == Ending::Open && (self.has_more || self.is_short)
+        self.ending() == Ending::Open && !self.is_held && (self.has_more || self.is_short)
     }
 
     /// Whether it is of a client that goes on, of which all that has come was done, and all that was sent is written.
     pub fn is_quiet(&self) -> bool {
-        let is_done = !self.has_more && !self.is_short && self.is_flushed();
+        let is_done = !self.has_more && !self.is_short && !self.is_held && self.is_flushed();
         is_done && self.ending() == Ending::Open && self.client().is_some()
     }
 

@@ -3,16 +3,18 @@
 //! of what waits for it. No deadline waits for a stream.
 
 ghost use Rattle.std.specs.Prelude.{◌≡◌, IfSome};
-ghost use Rattle.node_net.specs.Keyed.{ChangesAt};
+ghost use Rattle.node_net.specs.Keyed.{ChangesAt, Behind};
 ghost use Rattle.node_net.specs.Sending.{SendsWhole, Rests, IsNoted, IsBlamed, GivesUp, IsGivenUp, IsGivenUpFor};
-ghost use Rattle.node_net.specs.Telling.{ReachesAt};
+ghost use Rattle.node_net.specs.Telling.{ReachesAt, SendsMail};
 
 use crate::connection::{Cause, Connection, Ending};
 use crate::limits::{IDLE, IDLE_STEP, LAST_BYTES, RETRY, ROUTE_STALL};
+use crate::loops::Mail;
 use net_streams::Stream;
 use server_events::{Events, RefusalCause};
 use slab::Slab;
 use std::alloc::{AllocError, Global};
+use std::collections::VecDeque;
 
 /// The connections of a server, by their keys. In each list of keys but `awaited` each stands once, and there is room for all.
 #[derive(Drop)]
@@ -27,6 +29,8 @@ pub(crate) struct Connections<S: Stream> {
     /// Connections that are to be served in the next turn, although nothing tells of them, and those of this turn.
     pub again: Vec<usize>,
     pub serving: Vec<usize>,
+    /// Connections that are held until a shard has finished a turn, in the order in which they were.
+    pub held: VecDeque<usize>,
     /// Connections that go at the end of the turn, and those that are going.
     pub leaving: Vec<usize>,
     pub going: Vec<usize>,
@@ -84,6 +88,7 @@ impl<S: Stream> Connections<S> {
             has_told: false,
             again: Vec::new(alloc),
             serving: Vec::new(alloc),
+            held: VecDeque::new(alloc),
             leaving: Vec::new(alloc),
             going: Vec::new(alloc),
             now: 0,
@@ -104,6 +109,7 @@ impl<S: Stream> Connections<S> {
         let all = self.table.len().saturating_add(1);
         self.again.reserve(all)?;
         self.serving.reserve(all)?;
+        self.held.reserve(all)?;
         self.leaving.reserve(all)?;
         self.going.reserve(all)
     }
@@ -150,13 +156,24 @@ impl<S: Stream> Connections<S> {
         if connection.served_in == self.turns {
             return false;
         }
-        connection.served_in = self.turns;
         connection.stands_again = false;
+        if connection.is_held {
+            return false;
+        }
+        connection.served_in = self.turns;
         let was_short = connection.is_short;
         self.came = self.came.saturating_add(connection.read());
         self.is_short |= connection.is_short && !was_short;
         self.rest_later(key);
         true
+    }
+
+    /// Whether it is a route whose other end is to tell still who it is.
+    pub fn is_unknown(&self, key: usize) -> bool {
+        match self.table.get(key) {
+            None => false,
+            Some(connection) => connection.is_unknown(),
+        }
     }
 
     /// Writes what was kept for a connection, as far as its stream takes it.
@@ -201,6 +218,40 @@ impl<S: Stream> Connections<S> {
         }
     }
 
+    /// What a connection asks next finds no room: it is held until a shard has finished a turn.
+    pub fn hold(&mut self, key: usize) {
+        let Some(connection) = self.table.get_mut(key) else {
+            return;
+        };
+        if connection.stands_held || self.held.push_back(key).is_ok() {
+            connection.stands_held = true;
+            connection.hold();
+        } else {
+            self.postpone(key);
+        }
+    }
+
+    /// The connection that was held first is held no more. It stays the first one of those that are.
+    pub fn release_first(&mut self) -> Option<usize> {
+        let key = self.held.front().copied()?;
+        if let Some(connection) = self.table.get_mut(key) {
+            connection.is_held = false;
+        }
+        Some(key)
+    }
+
+    /// Whether the connection that was held first is held no more: then it is the first one no more.
+    pub fn is_released(&mut self, key: usize) -> bool {
+        if let Some(connection) = self.table.get_mut(key) {
+            if connection.is_held {
+                return false;
+            }
+            connection.stands_held = false;
+        }
+        let _first = self.held.pop_front();
+        true
+    }
+
     /// Sends what was encoded for a connection, where there was memory for all of it.
     #[tactic(auto, using(crate::proofs::KeyedLemmas::changes_none, crate::proofs::KeyedLemmas::changes_some))]
     pub fn send_encoded(&mut self, key: usize, encoded: &[u8], is_whole: bool)
@@ -210,6 +261,26 @@ impl<S: Stream> Connections<S> {
         if let Some(connection) = self.table.get_mut(key) {
             connection.send_encoded(encoded, is_whole);
         }
+    }
+
+    /// Sends what stands in the mail of the server that is reached over a connection.
+    pub fn send_mail(&mut self, key: usize, mail: &Mail)
+        ensures { SendsMail S.gave S.wrote key mail.now self.old.table self.new.table }
+    {
+        if !mail.is_lost && mail.bytes.is_empty() {
+            return;
+        }
+        self.send_noted(key, &mail.bytes, !mail.is_lost);
+    }
+
+    /// Sends what was encoded for a connection, where there was memory for all of it, and notes it where it is to be closed then.
+    #[tactic(auto, using(crate::proofs::KeyedLemmas::changes_twice))]
+    fn send_noted(&mut self, key: usize, encoded: &[u8], is_whole: bool)
+        ensures { ChangesAt (Behind (SendsWhole S.gave S.wrote encoded.now is_whole) IsNoted) key
+            self.old.table self.new.table }
+    {
+        self.send_encoded(key, encoded, is_whole);
+        self.leave_if_gone(key);
     }
 
     /// How many bytes that were sent are not written, of the connection of this key, where the server at this place is reached over it.

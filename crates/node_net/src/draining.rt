@@ -53,6 +53,11 @@ impl Drain {
         }
     }
 
+    /// Whether its deadline has come, or it was asked to end.
+    pub fn is_late(&self) -> bool {
+        self.is_late
+    }
+
     /// When it goes on although no stream is ready; never for the greatest number.
     pub fn next(&self) -> u64 {
         match self.stage {
@@ -74,7 +79,7 @@ impl<S: Stream> Connections<S> {
     }
 }
 
-impl<S: Stream, C: ServerCalls> Server<S, C> {
+impl<'l, S: Stream, C: ServerCalls> Server<'l, S, C> {
     /// Asks the server to drain within so many seconds, or ends the drain that goes on: then all its clients are closed in the next turn.
     /// One that has drained stays as it is. The caller takes no more clients.
     pub fn drain(&mut self, seconds: u64) {
@@ -83,7 +88,9 @@ impl<S: Stream, C: ServerCalls> Server<S, C> {
                 let now = self.connections.now;
                 self.drain.stage = Stage::Tells;
                 self.drain.deadline = now.saturating_add(seconds.saturating_mul(1_000));
-                self.connections.events.note(Event::DrainAsked { seconds });
+                if self.is_first() {
+                    self.connections.events.note(Event::DrainAsked { seconds });
+                }
             }
             Stage::Tells | Stage::Pauses | Stage::Closes => self.drain.deadline = 0,
             Stage::Done => {}
@@ -104,7 +111,7 @@ impl<S: Stream, C: ServerCalls> Server<S, C> {
     pub(crate) fn drain_on<R: Wait>(&mut self, rt: &R) {
         match self.drain.stage {
             Stage::Serves | Stage::Done => return,
-            Stage::Tells => self.tell_drain(rt),
+            Stage::Tells => self.begin_pause(rt),
             Stage::Pauses if self.connections.now >= self.drain.closes_at => {
                 // from now on, clients are closed once nothing waits for them: each is looked at, and later each that was served or written to
                 self.drain.stage = Stage::Closes;
@@ -121,8 +128,41 @@ impl<S: Stream, C: ServerCalls> Server<S, C> {
         }
     }
 
-    /// Has the hub and the shards drain, and begins the pause. For want of memory it is tried again.
+    /// Begins the pause once the other servers are told, which the first loop does.
+    fn begin_pause<R: Wait>(&mut self, rt: &R) {
+        match self.loops {
+            Some(loops) if !self.place.is_first() => {
+                if loops.has_told() {
+                    self.pause();
+                }
+            }
+            _ => self.tell_drain(rt),
+        }
+    }
+
+    /// The pause begins now.
+    fn pause(&mut self) {
+        self.drain.stage = Stage::Pauses;
+        self.drain.closes_at = self.connections.now.saturating_add(DRAIN_PAUSE);
+    }
+
+    /// Has the hub and the shards drain, and begins the pause. Where the server has other loops, none of them collects meanwhile, and the frames that
+    /// wait are taken before. For want of memory it is tried again.
     fn tell_drain<R: Wait>(&mut self, rt: &R) {
+        let Some(loops) = self.loops else {
+            return self.drain_held(rt);
+        };
+        let one = loops.collects(rt);
+        self.write_frames(rt);
+        self.drain_held(rt);
+        drop(one);
+        if self.drain.stage == Stage::Pauses {
+            loops.note_told(self.place);
+        }
+    }
+
+    /// The same while no other loop collects.
+    fn drain_held<R: Wait>(&mut self, rt: &R) {
         match self.node.drain(rt) {
             Err(_) => self.connections.is_short = true,
             Ok(cut) => {
@@ -130,16 +170,15 @@ impl<S: Stream, C: ServerCalls> Server<S, C> {
                 if let Some(cut) = cut {
                     self.cut_routes(&cut);
                 }
-                self.drain.stage = Stage::Pauses;
-                self.drain.closes_at = self.connections.now.saturating_add(DRAIN_PAUSE);
+                self.pause();
             }
         }
     }
 
     /// Closes the clients for which nothing waits, among those that were served or written to since this was done last. Where shards have
-    /// work left for want of memory, it is done later.
+    /// work left, it is done later.
     fn close_quiet<R: Wait>(&mut self, rt: &R) {
-        if self.unworked > 0 {
+        if self.is_behind() {
             return;
         }
         let looks_at_all = std::mem::replace(&mut self.connections.looks_at_all, false);
@@ -165,12 +204,24 @@ impl<S: Stream, C: ServerCalls> Server<S, C> {
         if !is_quiet {
             return;
         }
+        self.work_for_others(rt);
         if self.leave(rt, key).is_ok() {
             self.connections.shut(key);
             self.connections.close_if_written(key);
         } else {
             self.connections.is_short = true;
             self.connections.note_quiet(key);
+        }
+    }
+
+    /// Where another loop has put something for this one since it began to look, its shards are worked once more, and what they have put is written.
+    fn work_for_others<R: Wait>(&mut self, rt: &R) {
+        if let Some(loops) = self.loops {
+            if loops.is_told(self.place) {
+                let node = self.node;
+                self.work(rt, node);
+                self.flush(rt);
+            }
         }
     }
 
@@ -199,18 +250,47 @@ impl<S: Stream, C: ServerCalls> Server<S, C> {
         if !is_closing || !self.clients.is_empty() {
             return;
         }
+        match self.loops {
+            Some(loops) if !self.place.is_first() => {
+                if self.may_come || (!self.drain.is_late && self.connections.has_told) {
+                    return;
+                }
+                self.finish_drain();
+                loops.finish_drain(self.drain.cut_off);
+            }
+            Some(loops) => {
+                let Some(others) = loops.others_done() else {
+                    return;
+                };
+                // whoever is done has told of its frames before: they stand in the mail until the next turn
+                if !self.drain.is_late && loops.is_told(self.place) {
+                    return;
+                }
+                self.end_drain_of_all(others);
+            }
+            None => self.end_drain_of_all(0),
+        }
+    }
+
+    /// The same where all other loops are done, which have closed so many clients before nothing waited for them.
+    fn end_drain_of_all(&mut self, others: u64) {
         if !self.drain.is_late && !self.are_routes_written() {
             return;
         }
-        self.drain.stage = Stage::Done;
-        self.connections.drains = false;
-        self.connections.quiet.clear();
-        let clients = self.drain.cut_off;
-        self.connections.events.note(if self.drain.is_late {
+        self.finish_drain();
+        let clients = self.drain.cut_off.saturating_add(others);
+        self.connections.events.note(if self.drain.is_late || clients > 0 {
             Event::DrainedLate { clients }
         } else {
             Event::Drained
         });
+    }
+
+    /// The loop is done with the drain.
+    fn finish_drain(&mut self) {
+        self.drain.stage = Stage::Done;
+        self.connections.drains = false;
+        self.connections.quiet.clear();
     }
 
     /// Whether all that waited for other servers is written, as far as they are reached.

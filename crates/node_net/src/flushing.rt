@@ -1,6 +1,6 @@
 //! What was put for clients and other servers is taken and written.
 
-ghost use Rattle.std.specs.Prelude.{◌≡◌, ◌⊎◌, [], ◌∷◌, ◌++◌, length, slice_get, None, IfSome, OnOk};
+ghost use Rattle.std.specs.Prelude.{◌≡◌, ◌⊎◌, [], ◌∷◌, ◌++◌, length, slice_get, true, false, None, is_none, IfSome, OnOk};
 ghost use Rattle.std.specs.Bool.{OnFalse};
 ghost use Rattle.slab.specs.Slab.{get};
 ghost use Rattle.route_frames.specs.Canonical.{frame_bytes};
@@ -9,13 +9,14 @@ ghost use Rattle.server_calls.specs.Routed.{took, taken_of};
 ghost use Rattle.node_net.specs.Keyed.{ChangesAt, EachStays};
 ghost use Rattle.node_net.specs.Sending.{SendsTaken, IsLimited, KeepsStream};
 ghost use Rattle.node_net.specs.Taking.{all_parts, keys_of, client_in, LendsAt, TakesOne, TakesOn, SendsPart, SendsEach, GoesOnAt, FlushesSome, FlushesAll};
-ghost use Rattle.node_net.specs.Telling.{spelling, TellsFrames, TellsSome, TellsPeer};
+ghost use Rattle.node_net.specs.Telling.{spelling, PostsSome, TellsFrames, TellsSome, TellsPeer};
 
 use crate::clients::Clients;
 use crate::connection::{Cause, Ending};
 use crate::connections::{Connections, last_bytes};
 use crate::holds::{swap_dirty_conns, take_frames};
-use crate::limits::{BUSY_BYTES, FRAMES, PEER_BACKLOG, TAKEN_AT_ONCE};
+use crate::limits::{BUSY_BYTES, FRAMES, PEER_BACKLOG, POSTS, TAKEN_AT_ONCE};
+use crate::loops::{Loops, Mail, Mails};
 use crate::parts::{Parts, let_go_beyond};
 use crate::server::Server;
 use crate::taken::Taken;
@@ -306,7 +307,29 @@ fn encode_frames(frames: Vec<Numbered>, encoded: &mut Vec<u8>) -> Result<(), All
     Ok(())
 }
 
-impl<S: Stream, C: ServerCalls> Server<S, C> {
+/// Takes at most so many frames that wait for the server at this place, and spells them behind its mail. Whether there were some. Where there is no
+/// memory for that once they are taken, the mail says so.
+fn post<C: ServerCalls, R: Wait>(
+    rt: &R,
+    node: C,
+    alloc: Global,
+    peer: usize,
+    count: usize,
+    mail: &mut Mail,
+) -> Result<bool, AllocError>
+    ensures { PostsSome C.Hub.routed peer count mail.old mail.new }
+{
+    match take_frames(rt, node, alloc, peer, count) {
+        Ok(frames) => {
+            let is_some = !frames.is_empty();
+            mail.is_lost |= encode_frames(frames, &mut mail.bytes).is_err();
+            Ok(is_some)
+        }
+        Err(_) => Err(AllocError),
+    }
+}
+
+impl<'l, S: Stream, C: ServerCalls> Server<'l, S, C> {
     /// Takes and writes what waits for clients: for those that something was put for, and for those that
     /// were served.
     pub(crate) fn flush<R: Wait>(&mut self, rt: &R) {
@@ -314,7 +337,10 @@ impl<S: Stream, C: ServerCalls> Server<S, C> {
         let served = std::mem::replace(&mut self.connections.awaited, Vec::new(self.alloc));
         let is_any = std::mem::replace(&mut self.connections.awaits_any, false);
         for place in 0..self.node.shards() {
-            self.flush_shard(rt, place.saturating_add(1), &served, is_any);
+            let number = place.saturating_add(1);
+            if self.owns(number) {
+                self.flush_shard(rt, number, &served, is_any);
+            }
         }
     }
 
@@ -386,6 +412,29 @@ impl<S: Stream, C: ServerCalls> Server<S, C> {
             return;
         }
         self.connections.has_told = false;
+        match self.loops {
+            Some(loops) if !self.place.is_first() => self.post_frames(rt, loops),
+            Some(loops) => {
+                self.cut_posted(rt, loops);
+                self.write_to_peers(rt);
+            }
+            None => self.write_to_peers(rt),
+        }
+    }
+
+    /// Closes the routes to the servers whose sessions were cut while another loop collected.
+    fn cut_posted<R: Wait>(&mut self, rt: &R, loops: &Loops<'_>) {
+        for peer in 0..self.peers.count() {
+            if loops.is_cut(rt, peer) {
+                if let Some(key) = self.peers.kept_connection(peer) {
+                    self.connections.give_up_for(key, Cause::Full);
+                }
+            }
+        }
+    }
+
+    /// The same of the loop that has the routes.
+    fn write_to_peers<R: Wait>(&mut self, rt: &R) {
         for peer in 0..self.peers.count() {
             if let Some(key) = self.peers.kept_connection(peer) {
                 self.write_to_peer(rt, peer, key);
@@ -395,13 +444,54 @@ impl<S: Stream, C: ServerCalls> Server<S, C> {
         }
     }
 
+    /// Puts what waits for other servers into their mail, where the first loop finds it.
+    fn post_frames<R: Wait>(&mut self, rt: &R, loops: &Loops<'_>) {
+        for peer in 0..self.peers.count() {
+            for _round in 0..POSTS {
+                if !self.post_some(rt, loops, peer) {
+                    break;
+                }
+            }
+        }
+    }
+
+    /// Puts at most so many frames that wait for another server into its mail as are taken at once. Whether there were some.
+    fn post_some<R: Wait>(&mut self, rt: &R, loops: &Loops<'_>, peer: usize) -> bool {
+        let mut mails = loops.mails(rt);
+        let posted = self.post_held(rt, &mut mails, peer);
+        drop(mails);
+        if posted {
+            loops.tell_first();
+        }
+        posted
+    }
+
+    /// The same while the mail is held.
+    fn post_held<R: Wait>(&mut self, rt: &R, mails: &mut Mails, peer: usize) -> bool {
+        let Some(mail) = mails.get_mut(peer) else {
+            return false;
+        };
+        if !mail.takes() {
+            return false;
+        }
+        match post(rt, self.node, self.alloc, peer, FRAMES, mail) {
+            Ok(is_some) => is_some,
+            Err(_) => {
+                self.connections.has_told = true;
+                self.connections.is_short = true;
+                false
+            }
+        }
+    }
+
     /// Takes and writes what waits for another server. What its stream does not take is kept, up to [`PEER_BACKLOG`]: then its route is
     /// cut. A server for whose frames there is no memory once they are taken is cut too, since it would miss them.
     #[tactic(auto, using(crate::proofs::TellingLemmas::told_none, crate::proofs::TellingLemmas::told_more, crate::proofs::TellingLemmas::told_all, crate::proofs::TellingLemmas::told_full))]
     fn write_to_peer<R: Wait>(&mut self, rt: &R, peer: usize, key: usize)
-        ensures { TellsPeer C.Hub.routed S.gave S.wrote peer key self.old.connections.table
-            self.new.connections.table }
+        ensures { TellsPeer C.Hub.routed S.gave S.wrote (is_none self.old.loops) peer key
+            self.old.connections.table self.new.connections.table }
     {
+        let loops = self.loops;
         for _round in 0..u64::MAX {
             let Some(backlog) = self.connections.backlog(peer, key) else {
                 return;
@@ -410,16 +500,72 @@ impl<S: Stream, C: ServerCalls> Server<S, C> {
                 self.connections.give_up_for(key, Cause::Full);
                 return;
             }
-            if !self.write_some(rt, peer, key, frames_beside(backlog)) {
+            if !self.write_some(rt, loops, peer, key, frames_beside(backlog)) {
                 return;
             }
         }
     }
 
-    /// Takes and writes at most so many frames that wait for another server. Whether there were some.
-    fn write_some<R: Wait>(&mut self, rt: &R, peer: usize, key: usize, count: usize) -> bool
-        ensures { TellsSome C.Hub.routed S.gave S.wrote peer count key self.old.connections.table
-            self.new.connections.table }
+    /// Takes and writes at most so many frames that wait for another server, behind what other loops have put into its mail, where there are some.
+    /// Whether there were such frames.
+    fn write_some<R: Wait>(
+        &mut self,
+        rt: &R,
+        loops: Option<&Loops<'_>>,
+        peer: usize,
+        key: usize,
+        count: usize,
+    ) -> bool
+        ensures { TellsSome C.Hub.routed S.gave S.wrote (is_none loops.entry) peer count key
+            self.old.connections.table self.new.connections.table }
+    {
+        match loops {
+            None => self.write_alone(rt, peer, key, count),
+            Some(loops) => self.write_beside(rt, loops, peer, key, count),
+        }
+    }
+
+    /// The same where there are other loops.
+    fn write_beside<R: Wait>(
+        &mut self,
+        rt: &R,
+        loops: &Loops<'_>,
+        peer: usize,
+        key: usize,
+        count: usize,
+    ) -> bool
+        ensures { TellsSome C.Hub.routed S.gave S.wrote false peer count key
+            self.old.connections.table self.new.connections.table }
+    {
+        let mut mails = loops.mails(rt);
+        self.write_held(rt, &mut mails, peer, key, count)
+    }
+
+    /// The same while the mail is held.
+    fn write_held<R: Wait>(
+        &mut self,
+        rt: &R,
+        mails: &mut Mails,
+        peer: usize,
+        key: usize,
+        count: usize,
+    ) -> bool
+        ensures { TellsSome C.Hub.routed S.gave S.wrote false peer count key
+            self.old.connections.table self.new.connections.table }
+    {
+        match mails.get_mut(peer) {
+            None => self.write_alone(rt, peer, key, count),
+            Some(mail) => self.write_mail(rt, mail, peer, key, count),
+        }
+    }
+
+    /// The same where no other loop has put anything into the mail.
+    #[tactic(auto, using(crate::proofs::TellingLemmas::tells_some))]
+    fn write_alone<R: Wait>(&mut self, rt: &R, peer: usize, key: usize, count: usize) -> bool
+        ensures told { TellsSome C.Hub.routed S.gave S.wrote true peer count key
+            self.old.connections.table self.new.connections.table }
+        ensures again { TellsSome C.Hub.routed S.gave S.wrote false peer count key
+            self.old.connections.table self.new.connections.table }
     {
         match take_frames(rt, self.node, self.alloc, peer, count) {
             Ok(frames) => self.write_taken(key, frames),
@@ -431,10 +577,39 @@ impl<S: Stream, C: ServerCalls> Server<S, C> {
         }
     }
 
+    /// Writes the mail of another server, where other loops have put some, and behind it at most so many frames that wait for it. Whether there were
+    /// some of these.
+    #[tactic(auto, using(crate::proofs::TellingLemmas::tells_mail))]
+    fn write_mail<R: Wait>(
+        &mut self,
+        rt: &R,
+        mail: &mut Mail,
+        peer: usize,
+        key: usize,
+        count: usize,
+    ) -> bool
+        ensures { TellsSome C.Hub.routed S.gave S.wrote false peer count key
+            self.old.connections.table self.new.connections.table }
+    {
+        let posted = post(rt, self.node, self.alloc, peer, count, mail);
+        self.connections.send_mail(key, mail);
+        mail.bytes.clear();
+        let_go_beyond(self.alloc, &mut mail.bytes, TAKEN_AT_ONCE);
+        mail.backlog = self.connections.backlog(peer, key).unwrap_or(0);
+        match posted {
+            Ok(is_some) => is_some,
+            Err(_) => {
+                self.connections.has_told = true;
+                self.connections.is_short = true;
+                false
+            }
+        }
+    }
+
     /// Writes frames that were taken for another server. Whether there were some.
     #[tactic(auto, using(crate::proofs::TellingLemmas::tells_frames))]
     fn write_taken(&mut self, key: usize, frames: Vec<Numbered>) -> bool
-        ensures { TellsFrames S.gave S.wrote key frames.items self.old.connections.table
+        ensures { TellsFrames S.gave S.wrote key [] frames.items self.old.connections.table
             self.new.connections.table }
     {
         if frames.is_empty() {

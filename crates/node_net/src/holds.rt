@@ -84,10 +84,18 @@ pub(crate) fn cut<C: ServerCalls, R: Wait>(rt: &R, node: C, session: SessionId)
     hub.cut(session);
 }
 
-/// Hands the jobs to the shards that some of these do not have.
-pub(crate) fn push_jobs<C: ServerCalls, R: Wait>(rt: &R, node: C) {
+/// Hands the jobs to the shards that some of these do not have. Whether some are left.
+pub(crate) fn push_jobs<C: ServerCalls, R: Wait>(rt: &R, node: C) -> bool {
     let mut hub = node.hub(rt);
-    hub.push_jobs(rt);
+    hub.push_jobs(rt)
+}
+
+/// Whether the hub has not counted all that was opened and closed at the shard of this number, where there is one.
+pub(crate) fn has_deltas<C: ServerCalls, R: Wait>(rt: &R, node: C, number: u64) -> bool {
+    match node.shard(rt, number) {
+        None => false,
+        Some(shard) => shard.has_deltas(),
+    }
 }
 
 /// Takes at most so many frames that wait for the server at this place; none where there is no such one.
@@ -121,7 +129,7 @@ pub(crate) fn attach<C: ServerCalls, R: Wait>(
 /// Works the shard of this number, where there is one.
 pub(crate) fn work_shard<C: ServerCalls, R: Wait>(rt: &R, node: C, number: u64) -> Option<Worked>
     ensures { MatchOption result (C.lacks node number)
-        (λ worked. IsWorked C.Shard.worked C.Shard.number worked.is_urgent number) }
+        (λ worked. IsWorked C.Shard.worked C.Shard.number worked.is_unfinished number) }
 {
     match node.shard(rt, number) {
         None => None,
@@ -147,8 +155,8 @@ impl RouteLink {
         ensures { ReceivesAtHub C.Hub.routed C.Hub.pushed life.now result.end self.old self.new }
     {
         let mut hub = node.hub(rt);
-        let run = self.receive_all(&mut hub, life);
-        hub.push_jobs(rt);
+        let mut run = self.receive_all(&mut hub, life);
+        run.is_unpushed = hub.push_jobs(rt);
         run
     }
 }
@@ -187,9 +195,9 @@ impl ClientLink {
     {
         let own = Pcg64::from_state(words.state(), words.stream());
         let mut tally = HubTally::new(node.hub(rt), own);
-        let run = self.publish_held(&mut tally);
+        let mut run = self.publish_held(&mut tally);
         if !run.is_empty {
-            tally.hub.push_jobs(rt);
+            run.is_unpushed = tally.hub.push_jobs(rt);
         }
         *words = tally.words;
         run

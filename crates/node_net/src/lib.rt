@@ -26,6 +26,7 @@
 #![tactic(auto)]
 
 mod addresses;
+mod arrivals;
 mod client_link;
 mod clients;
 mod connection;
@@ -38,6 +39,7 @@ mod handshake;
 mod holds;
 mod laws;
 mod limits;
+mod loops;
 mod parts;
 mod peers;
 mod placing;
@@ -55,6 +57,7 @@ pub use addresses::PeerAddresses;
 pub use control::{Control, DRAIN, DRAINS, NO_SERVER};
 pub use faults::AddFault;
 pub use laws::{routes_read_what_came, sent_bytes_keep_their_order, turns_are_served};
+pub use loops::{LoopWord, Loops};
 pub use net_streams::{MemStream, Stream, StreamFault};
 pub use running::{Sockets, WAKER};
 pub use server::{Server, Side, shard_of_client};

@@ -97,6 +97,13 @@ pub(crate) const FRAMES: usize = 64;
 /// what may wait for another server.
 pub(crate) const SHARD_RUN: u64 = 256;
 
+/// How often in a row frames are taken for another server and put into its mail: for as many as have room.
+pub(crate) const POSTS: usize = 16;
+
+/// How often a publication that finds no room is tried, while the loop works its own shards, before its connection is held until a shard has finished a
+/// turn: where a server has several loops.
+pub(crate) const TRIES: u32 = 300;
+
 /// The most connections that are accepted in a turn.
 pub(crate) const ACCEPTS: usize = 256;
 

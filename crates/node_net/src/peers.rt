@@ -54,6 +54,16 @@ impl Peers {
         self.links.get(place)?.kept
     }
 
+    /// The place of the server whose session with this connection is kept.
+    pub fn place_of(&self, key: usize) -> Option<usize> {
+        for (place, link) in self.links.iter().enumerate() {
+            if is_at(link.kept, key) {
+                return Some(place);
+            }
+        }
+        None
+    }
+
     /// The name of the server that this connection dials.
     pub fn dialed_name(&self, key: usize, life: &Life) -> Option<NodeId> {
         for (place, link) in self.links.iter().enumerate() {

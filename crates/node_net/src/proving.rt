@@ -135,7 +135,7 @@ fn refusal_of(fault: Failure<SessionFault>) -> RefusalCause {
     }
 }
 
-impl<S: Stream, C: ServerCalls> Server<S, C> {
+impl<'l, S: Stream, C: ServerCalls> Server<'l, S, C> {
     /// From now on, whoever proves to have this secret is a server of the mesh, and nobody else is. Each route needs a word that was drawn at random
     /// ([`Server::set_word`]).
     pub fn set_secret(&mut self, secret: Secret) {

@@ -5,6 +5,7 @@ use crate::connection::Cause;
 use crate::control::{CONTROL, CONTROL_LINK, Control};
 use crate::faults::AddFault;
 use crate::limits::{ACCEPTS, ASKED_EVERY, EVENTS, LOOK_BYTES, LOOKS, RETRY, UNANSWERED};
+use crate::loops::Loops;
 use crate::peers::{Peers, Redials};
 use crate::server::{Server, Side};
 use crate::shutdown::Shutdown;
@@ -12,7 +13,7 @@ use mio::event::Event as Ready;
 use mio::net::{TcpListener, TcpStream};
 use mio::{Events, Interest, Poll, Token};
 use net_streams::end_unanswered;
-use server_calls::ServerCalls;
+use server_calls::{LoopPlace, ServerCalls, loop_of_client};
 use server_events::{Caller, Event, EventSink, Events as ServerEvents, RefusalCause, SystemCause};
 use std::alloc::{AllocError, Global};
 use std::io;
@@ -70,6 +71,16 @@ impl Door {
             side,
             has_more: true,
             is_open: is_client(side),
+        }
+    }
+
+    /// Nobody comes in here.
+    fn closed(side: Side) -> Door {
+        Door {
+            listener: None,
+            side,
+            has_more: false,
+            is_open: false,
         }
     }
 
@@ -200,6 +211,25 @@ fn watch(poll: &Poll, stream: &mut TcpStream, key: usize, side: Side) -> bool {
 }
 
 impl Rounds {
+    /// Those of a loop that is not the first: nobody connects to it, and no operator.
+    fn beside(alloc: Global, start: Instant, poll: Poll) -> Rounds {
+        Rounds {
+            start,
+            poll,
+            clients: Door::closed(Side::Client),
+            routes: Door::closed(Side::Accepted(None)),
+            redials: Redials::new(alloc),
+            changes: 0,
+            ready: Vec::new(alloc),
+            is_busy: false,
+            has_failed: false,
+            control: None,
+            is_controlled: false,
+            heard: 0,
+            has_finished: false,
+        }
+    }
+
     fn new(alloc: Global, start: Instant, sockets: Sockets) -> Rounds {
         let Sockets {
             poll,
@@ -242,8 +272,15 @@ impl Rounds {
         (self.clients.has_more || self.routes.has_more) && !self.has_failed
     }
 
-    /// Looks a few times whether a socket is ready, where one was in the last turn, in which so many bytes came. Whether one is.
-    fn look(&mut self, events: &mut Events, came: usize) -> io::Result<bool> {
+    /// Looks a few times whether a socket is ready, where one was in the last turn, in which so many bytes came, or whether the loop was told to look.
+    /// Whether it is so.
+    fn look(
+        &mut self,
+        events: &mut Events,
+        came: usize,
+        loops: Option<&Loops<'_>>,
+        place: LoopPlace,
+    ) -> io::Result<bool> {
         if !self.is_busy || came > LOOK_BYTES || self.may_accept() {
             return Ok(false);
         }
@@ -251,6 +288,11 @@ impl Rounds {
             self.poll.poll(events, Some(Duration::from_millis(0)))?;
             if !events.is_empty() {
                 return Ok(true);
+            }
+            if let Some(loops) = loops {
+                if loops.is_told(place) {
+                    return Ok(true);
+                }
             }
         }
         Ok(false)
@@ -334,7 +376,7 @@ fn refusal_of(fault: AddFault) -> RefusalCause {
     }
 }
 
-impl<C: ServerCalls> Server<TcpStream, C> {
+impl<'l, C: ServerCalls> Server<'l, TcpStream, C> {
     /// Serves until all servers of the process stop, or have drained: waits until a socket is ready, takes clients and routes,
     /// dials each other server of the cluster that is not reached, where its address is known, and makes a turn. Where the mesh has a secret, a
     /// route is taken from everywhere, and is that of another server once it has proved that; without one it is taken from the host of one of the
@@ -347,10 +389,10 @@ impl<C: ServerCalls> Server<TcpStream, C> {
         shutdown: &Shutdown,
         log: &L,
     ) -> io::Result<()> {
-        self.connections.events.set_filter(log.filter());
         register(&mut sockets)?;
         let mut rounds = Rounds::new(self.alloc, Instant::now(rt)?, sockets);
         rounds.routes.is_open = self.has_secret();
+        rounds.redials.start(addresses.count())?;
         let mesh = Mesh {
             addresses,
             shutdown,
@@ -358,7 +400,25 @@ impl<C: ServerCalls> Server<TcpStream, C> {
         self.run_rounds(rt, &mut rounds, mesh, log)
     }
 
-    /// Serves until all servers of the process stop, over sockets that are registered.
+    /// The same of a loop that is not the first of its server's, and polls here: it serves the clients that the first loop hands to it, and takes
+    /// nobody else.
+    pub fn run_beside<R: Wait + Net + Clock + RandomSource, L: EventSink>(
+        &mut self,
+        rt: &R,
+        poll: Poll,
+        addresses: &PeerAddresses,
+        shutdown: &Shutdown,
+        log: &L,
+    ) -> io::Result<()> {
+        let mut rounds = Rounds::beside(self.alloc, Instant::now(rt)?, poll);
+        let mesh = Mesh {
+            addresses,
+            shutdown,
+        };
+        self.run_rounds(rt, &mut rounds, mesh, log)
+    }
+
+    /// Goes round, until all servers of the process stop: takes clients and routes, dials, and makes a turn for the connections that are ready.
     fn run_rounds<R: Wait + Net + Clock + RandomSource, L: EventSink>(
         &mut self,
         rt: &R,
@@ -366,21 +426,9 @@ impl<C: ServerCalls> Server<TcpStream, C> {
         mesh: Mesh<'_>,
         log: &L,
     ) -> io::Result<()> {
+        self.connections.events.set_filter(log.filter());
         rounds.ready.reserve(EVENTS)?;
-        rounds.redials.start(mesh.addresses.count())?;
         let mut events = Events::with_capacity(self.alloc, EVENTS)?;
-        self.go_round(rt, rounds, &mut events, mesh, log)
-    }
-
-    /// Goes round, until all servers of the process stop: takes clients and routes, dials, and makes a turn for the connections that are ready.
-    fn go_round<R: Wait + Net + Clock + RandomSource, L: EventSink>(
-        &mut self,
-        rt: &R,
-        rounds: &mut Rounds,
-        events: &mut Events,
-        mesh: Mesh<'_>,
-        log: &L,
-    ) -> io::Result<()> {
         for _round in rt.forever() {
             if mesh.shutdown.is_over() {
                 return Ok(());
@@ -388,14 +436,17 @@ impl<C: ServerCalls> Server<TcpStream, C> {
             rounds.hear_operators(self.life.names(), mesh.shutdown);
             self.hear_drain(rounds, mesh.shutdown);
             self.accept_all(rt, rounds, mesh);
-            self.dial_all(rt, rounds, mesh.addresses);
+            self.take_streams(rt, &rounds.poll, mesh.shutdown);
+            if self.is_first() {
+                self.dial_all(rt, rounds, mesh.addresses);
+            }
             self.turn(rt, &rounds.ready);
             rounds.ready.clear();
             self.tell(rt, rounds, mesh.shutdown, log);
             if mesh.shutdown.is_over() {
                 return Ok(());
             }
-            self.wait(rt, rounds, events)?;
+            self.wait(rt, rounds, &mut events)?;
         }
         Ok(())
     }
@@ -407,6 +458,11 @@ impl<C: ServerCalls> Server<TcpStream, C> {
             return;
         }
         rounds.clients.close();
+        if let Some(loops) = self.loops {
+            if self.place.is_first() {
+                loops.close_doors(self.place);
+            }
+        }
         if !self.drains() {
             self.drain(shutdown.drain_seconds());
             rounds.heard = rounds.heard.saturating_add(1);
@@ -427,7 +483,7 @@ impl<C: ServerCalls> Server<TcpStream, C> {
     ) {
         log.take(rt, self.life.name(), &mut self.connections.events);
         shutdown.lose(std::mem::replace(&mut self.gone, 0));
-        if self.has_drained() && !rounds.has_finished {
+        if self.is_first() && self.has_drained() && !rounds.has_finished {
             rounds.has_finished = true;
             shutdown.finish_drain();
         }
@@ -444,9 +500,12 @@ impl<C: ServerCalls> Server<TcpStream, C> {
         let next_turn = self.next_turn();
         let now = self.connections.now;
         let patience = rounds.patience(now, next_turn, &self.peers, &self.life);
-        if !rounds.look(events, self.connections.came)? {
-            rounds.poll.poll(events, patience)?;
+        if self.is_left {
+            rounds.poll.poll(events, Some(Duration::from_millis(0)))?;
+        } else if !rounds.look(events, self.connections.came, self.loops, self.place)? {
+            rounds.poll.poll(events, self.sleep(patience))?;
         }
+        self.wake_up();
         self.set_time(rounds.time(rt)?);
         for event in &*events {
             if rounds.is_of_connection(event.token()) {
@@ -455,6 +514,71 @@ impl<C: ServerCalls> Server<TcpStream, C> {
         }
         rounds.is_busy = !rounds.ready.is_empty();
         Ok(())
+    }
+
+    /// How long the loop may sleep that may sleep so long: not at all where it was told to look.
+    fn sleep(&self, patience: Option<Duration>) -> Option<Duration> {
+        match self.loops {
+            Some(loops) if !loops.sleep(self.place) => Some(Duration::from_millis(0)),
+            _ => patience,
+        }
+    }
+
+    /// Begins to look, behind a poll.
+    fn wake_up(&mut self) {
+        if let Some(loops) = self.loops {
+            if loops.clear(self.place) {
+                self.connections.has_told = true;
+            }
+        }
+    }
+
+    /// Takes the clients that the first loop has handed over.
+    fn take_streams<R: Wait + Clock + RandomSource>(
+        &mut self,
+        rt: &R,
+        poll: &Poll,
+        shutdown: &Shutdown,
+    ) {
+        let Some(loops) = self.loops else {
+            return;
+        };
+        if self.place.is_first() {
+            return;
+        }
+        // read before the last stream is taken: none is put once this is so
+        let has_closed = loops.has_closed();
+        for _stream in rt.forever() {
+            let Some(stream) = loops.take_stream(rt, self.place) else {
+                break;
+            };
+            // a drain that is late has closed all clients, and waits for none
+            if !self.drain.is_late() && self.take(rt, poll, stream, Side::Client) {
+                shutdown.take();
+            }
+        }
+        self.may_come = !has_closed;
+    }
+
+    /// Takes a client, or hands it to another loop. Whether this one takes it.
+    fn take_client<R: Wait + RandomSource>(
+        &mut self,
+        rt: &R,
+        poll: &Poll,
+        stream: TcpStream,
+    ) -> bool {
+        self.accepted = self.accepted.saturating_add(1);
+        let place = loop_of_client(self.accepted, self.life.shards(), self.place.loops());
+        match self.loops {
+            Some(loops) if place > 0 => {
+                if !loops.put_stream(rt, place as usize, stream) {
+                    let cause = RefusalCause::OutOfMemory;
+                    note_refused(&mut self.connections.events, Side::Client, cause);
+                }
+                false
+            }
+            _ => self.take(rt, poll, stream, Side::Client),
+        }
     }
 
     /// Takes all clients and routes that wait.
@@ -486,10 +610,13 @@ impl<C: ServerCalls> Server<TcpStream, C> {
                 return false;
             }
             match door.accept(rt, mesh.addresses) {
-                Accepted::Stream(stream, side) => {
-                    if self.take(rt, poll, stream, side) && is_client(side) {
+                Accepted::Stream(stream, side) if is_client(side) => {
+                    if self.take_client(rt, poll, stream) {
                         mesh.shutdown.take();
                     }
+                }
+                Accepted::Stream(stream, side) => {
+                    let _is_taken = self.take(rt, poll, stream, side);
                 }
                 Accepted::Stranger(side) => {
                     note_refused(&mut self.connections.events, side, RefusalCause::Stranger);

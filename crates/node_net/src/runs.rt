@@ -34,8 +34,8 @@ pub(crate) struct RunOutcome {
     pub end: Ran,
     /// As how many bytes the messages count that were handed to the shards.
     pub issued: usize,
-    /// How many jobs each shard was handed.
-    pub jobs: u64,
+    /// Whether jobs are left that were not handed to all shards, for want of memory.
+    pub is_unpushed: bool,
     /// As how many bytes the lines count that were put for the client itself.
     pub replied: usize,
     /// Whether the hub has not heard of all that the shard opened and closed.
@@ -54,7 +54,7 @@ impl RunOutcome {
         RunOutcome {
             end,
             issued: 0,
-            jobs: 0,
+            is_unpushed: false,
             replied: 0,
             has_deltas: false,
             is_refused: false,
@@ -66,20 +66,15 @@ impl RunOutcome {
     pub fn count(&mut self, bytes: usize)
         ensures { self.new.end ≡ self.old.end }
     {
-        if bytes > 0 {
-            self.issued = self.issued.saturating_add(bytes);
-            self.jobs = self.jobs.saturating_add(1);
-        }
+        self.issued = self.issued.saturating_add(bytes);
     }
 
     /// So many messages were handed to the shards, which have so many bytes together.
     pub fn count_run(&mut self, count: u64, bytes: usize)
         ensures end { self.new.end ≡ self.old.end }
-        ensures jobs { self.new.jobs ≡ min (self.old.jobs + count) (2 ^ 64 - 1) }
         ensures issued { 0 < count → 0 < self.new.issued }
     {
         let cost = MESSAGE_COST.saturating_mul(count as usize);
         self.issued = self.issued.saturating_add(bytes).saturating_add(cost);
-        self.jobs = self.jobs.saturating_add(count);
     }
 }

@@ -13,15 +13,17 @@ use crate::faults::AddFault;
 use crate::handshake::Said;
 use crate::holds::{accept, attach, cut, dial};
 use crate::limits::{DIAL, GREETING};
+use crate::loops::Loops;
 use crate::peers::{Peers, name_at};
 use crate::proving::Guard;
 use crate::route_link::{RouteLink, Stage};
 use crate::taken::Taken;
+use client_conn::Refusal;
 use client_frames::ServerInfo;
 use net_streams::Stream;
 use rand_core::SeedableRng;
 use rand_pcg::Pcg64;
-use server_calls::ServerCalls;
+use server_calls::{LoopPlace, ServerCalls};
 use server_events::{Event, Events, PeerCause, RefusalCause};
 use shard_core::DirtyConns;
 use std::alloc::{AllocError, Global};
@@ -81,7 +83,7 @@ fn peer_cause(cause: Option<Cause>) -> PeerCause {
 /// The connections of one server, over any kind of stream: what comes in on them becomes calls of the server,
 /// and what these have put for clients and other servers goes out. Only the thread that has it works the
 /// server's shards. (Profile.)
-pub struct Server<S: Stream, C: ServerCalls> {
+pub struct Server<'l, S: Stream, C: ServerCalls> {
     pub(crate) alloc: Global,
     pub(crate) node: C,
     pub(crate) life: Life,
@@ -101,8 +103,24 @@ pub struct Server<S: Stream, C: ServerCalls> {
     pub(crate) put: usize,
     /// The clients of a shard that something was put for.
     pub(crate) dirty_conns: DirtyConns,
-    /// How many jobs the shards are to work still, each counted once for each shard.
-    pub(crate) unworked: u64,
+    /// Whether jobs are left that were not handed to all shards, for want of memory.
+    pub(crate) is_unpushed: bool,
+    /// Whether a shard was left in this turn although jobs may wait there, since as many were worked as can wait.
+    pub(crate) is_left: bool,
+    /// Whether jobs may wait at the loop's shards since these were worked last: a shard was left, or there was no memory.
+    pub(crate) has_jobs_left: bool,
+    /// Whether a shard was left since what it has put is to be taken first.
+    pub(crate) is_urgent: bool,
+    /// What it shares with the other loops of its server, where there are several.
+    pub(crate) loops: Option<&'l Loops<'l>>,
+    /// Which of them it is.
+    pub(crate) place: LoopPlace,
+    /// Whether clients may come that the first loop has accepted: so it is of every loop but the first until that accepts nobody any more.
+    pub(crate) may_come: bool,
+    /// How often the publication, or the frame, was tried that finds no room now.
+    pub(crate) tries: u32,
+    /// How many clients were accepted.
+    pub(crate) accepted: u64,
     /// What was taken for clients and is about to be written.
     pub(crate) taken: Taken,
     /// Frames that are encoded and about to be written.
@@ -114,7 +132,7 @@ pub struct Server<S: Stream, C: ServerCalls> {
 }
 
 /// One call, also for crates above: `docs/PROVING.md`, "What a proof costs".
-impl<S: Stream, C: ServerCalls> Drop for Server<S, C> {
+impl<'l, S: Stream, C: ServerCalls> Drop for Server<'l, S, C> {
     fn drop(self) {
         let Server {
             alloc: _,
@@ -130,7 +148,15 @@ impl<S: Stream, C: ServerCalls> Drop for Server<S, C> {
             first: _,
             put: _,
             dirty_conns: _,
-            unworked: _,
+            is_unpushed: _,
+            is_left: _,
+            has_jobs_left: _,
+            is_urgent: _,
+            loops: _,
+            place: _,
+            may_come: _,
+            tries: _,
+            accepted: _,
             taken: _,
             encoded: _,
             drain: _,
@@ -139,7 +165,7 @@ impl<S: Stream, C: ServerCalls> Drop for Server<S, C> {
     }
 }
 
-impl<S: Stream, C: ServerCalls> Server<S, C> {
+impl<'l, S: Stream, C: ServerCalls> Server<'l, S, C> {
     /// The connections of this node, which is this life of a server and tells its clients this host and this port.
     /// There are none. The seed begins the words that decide which server serves a queue group.
     pub fn new(
@@ -149,7 +175,7 @@ impl<S: Stream, C: ServerCalls> Server<S, C> {
         host: HostText,
         port: u16,
         seed: u64,
-    ) -> Result<Server<S, C>, AllocError> {
+    ) -> Result<Server<'l, S, C>, AllocError> {
         let peers = Peers::new(alloc, life.names().len())?;
         let info = ServerInfo::new(alloc, life.name(), life.inc(), host, port)?;
         Ok(Server {
@@ -166,12 +192,38 @@ impl<S: Stream, C: ServerCalls> Server<S, C> {
             first: 0,
             put: 0,
             dirty_conns: DirtyConns::new(alloc),
-            unworked: 0,
+            is_unpushed: false,
+            is_left: false,
+            has_jobs_left: false,
+            is_urgent: false,
+            loops: None,
+            place: LoopPlace::alone(),
+            may_come: true,
+            tries: 0,
+            accepted: 0,
             taken: Taken::new(alloc),
             encoded: Vec::new(alloc),
             drain: Drain::new(),
             guard: Guard::new(),
         })
+    }
+
+    /// It is one of several loops of its server, the one at this place, whose shards are those of the loop. The words that decide which server serves
+    /// a queue group are 2^64 words further on for each loop before it. Once, and before a connection is added.
+    pub fn set_loops(&mut self, loops: &'l Loops<'l>, place: LoopPlace) {
+        self.words.advance(u128::from(place.place()) << 64);
+        self.loops = Some(loops);
+        self.place = place;
+    }
+
+    /// Whether it is the first of its server's loops, or the only one.
+    pub(crate) fn is_first(&self) -> bool {
+        self.place.is_first()
+    }
+
+    /// Whether the shard of this number belongs to the loop.
+    pub(crate) fn owns(&self, shard: u64) -> bool {
+        self.place.owns(shard)
     }
 
     /// The stream of a connection.
@@ -251,7 +303,9 @@ impl<S: Stream, C: ServerCalls> Server<S, C> {
     fn client<R: Wait>(&mut self, rt: &R) -> Result<Link, AddFault> {
         self.clients.reserve()?;
         let number = self.came.saturating_add(1);
-        let shard = shard_of_client(number, self.life.shards());
+        let Some(shard) = self.place.shard_of_client(number, self.life.shards()) else {
+            return Err(AddFault::Client(Refusal::Other));
+        };
         let link = attach(rt, self.node, self.alloc, shard, &self.info)?;
         self.came = number;
         Ok(Link::Client(link))
@@ -285,7 +339,18 @@ impl<S: Stream, C: ServerCalls> Server<S, C> {
             None => return Ok(None),
             Some(connection) => connection.detach(rt, self.node)?,
         }
+        self.end_mail(rt, key);
         Ok(self.take_out(key))
+    }
+
+    /// Nothing is on its way any more to the server whose session is kept over the connection, where one is.
+    fn end_mail<R: Wait>(&self, rt: &R, key: usize) {
+        let Some(loops) = self.loops else {
+            return;
+        };
+        if let Some(place) = self.peers.place_of(key) {
+            loops.reset_mail(rt, place, false);
+        }
     }
 
     /// Takes a connection out that is detached or cut.

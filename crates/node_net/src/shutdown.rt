@@ -1,12 +1,13 @@
 //! When the servers of a process stop, and which of them drain.
 
 use crate::limits::DRAIN_SECONDS;
-use mio::Waker;
+use crate::loops::LoopWord;
 use std::sync::atomic::{AtomicBool, AtomicU64, Ordering};
 
 /// What one server of a process is told from outside its thread: it is woken, and asked to drain.
 pub struct ServerControl {
-    waker: Waker,
+    /// What wakes each of its loops.
+    words: Vec<LoopWord>,
     /// How often it was asked to drain.
     asks: AtomicU64,
 }
@@ -14,15 +15,15 @@ pub struct ServerControl {
 /// One call, also for crates above: `docs/PROVING.md`, "What a proof costs".
 impl Drop for ServerControl {
     fn drop(self) {
-        let ServerControl { waker: _, asks: _ } = self;
+        let ServerControl { words: _, asks: _ } = self;
     }
 }
 
 impl ServerControl {
-    /// A server that this wakes, and that was not asked to drain.
-    pub fn new(waker: Waker) -> ServerControl {
+    /// A server whose loops these wake, and that was not asked to drain.
+    pub fn new(words: Vec<LoopWord>) -> ServerControl {
         ServerControl {
-            waker,
+            words,
             asks: AtomicU64::new(0),
         }
     }
@@ -34,7 +35,9 @@ impl ServerControl {
     }
 
     fn wake(&self) {
-        let _ = self.waker.wake();
+        for word in &self.words {
+            word.ring();
+        }
     }
 }
 
@@ -93,6 +96,14 @@ impl Shutdown {
     /// What the server at this place of the cluster is told, where it is one of these.
     fn server_at(&self, place: usize) -> Option<&ServerControl> {
         self.servers.get(place.checked_sub(self.first_place)?)
+    }
+
+    /// The words of the loops of the server at this place, where it is one of these.
+    pub fn words(&self, place: usize) -> &[LoopWord] {
+        match self.server_at(place) {
+            None => &[],
+            Some(server) => &server.words,
+        }
     }
 
     /// A drain may take so many seconds from now on.

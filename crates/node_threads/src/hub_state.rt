@@ -222,13 +222,14 @@ impl<N: NodeName> Outlet<N> {
         )
     }
 
-    /// Pushes what is not pushed yet, oldest first, as far as lanes have room and there is memory.
-    fn push_all<R: Wait>(&mut self, rt: &R)
+    /// Pushes what is not pushed yet, oldest first, as far as lanes have room and there is memory. Whether some is left.
+    fn push_all<R: Wait>(&mut self, rt: &R) -> bool
         ensures { self.new ≡ self.old }
     {
         self.offer(rt);
         self.begin_run();
         self.offer(rt);
+        self.run.is_some() || !self.unsent.is_empty()
     }
 
     /// Pushes the run that is handed out to the lanes that do not have it.
@@ -353,11 +354,11 @@ impl<N: NodeName> HubState<N> {
 
     /// Pushes the jobs that were given to the shards and are not pushed yet, oldest first: those of all
     /// publications since the last call as one run. What a lane has no room for, or for which there is no
-    /// memory, is pushed by a later call. May wait.
-    pub fn push_jobs<R: Wait>(&mut self, rt: &R)
+    /// memory, is pushed by a later call. Whether there is such a one. May wait.
+    pub fn push_jobs<R: Wait>(&mut self, rt: &R) -> bool
         ensures { self.new ≡ self.old }
     {
-        self.outlet.push_all(rt);
+        self.outlet.push_all(rt)
     }
 
     /// The last turn that each shard finished, as it has loaded them last.

@@ -56,6 +56,9 @@ seed_rule = with_value (option_rule (codes "word")) (codes "0")
 abbrev end_rule : Rule
 end_rule = option_rule (codes "stop-after")
 
+abbrev threads_rule : Rule
+threads_rule = with_value (option_rule (codes "loops")) (codes "1")
+
 abbrev log_rule : Rule
 log_rule = as_text level_rule
 
@@ -114,15 +117,16 @@ match_shape = built_of (codes "match") (pattern_rule ∷ subject_rule ∷ flag_r
 abbrev serve_shape : Shape
 serve_shape =
     built_of (codes "serve")
-    (nodes_rule ∷ port_rule ∷ shards_rule ∷ inc_rule ∷ seed_rule ∷ end_rule ∷ log_rule ∷ time_rule ∷ socket_rule
-    ∷ flag_rule ∷ [])
+    (nodes_rule ∷ port_rule ∷ shards_rule ∷ inc_rule ∷ seed_rule ∷ end_rule ∷ threads_rule ∷ log_rule ∷ time_rule
+    ∷ socket_rule ∷ flag_rule ∷ [])
 
 abbrev drain_shape : Shape
 drain_shape = built_of (codes "drain") (path_rule ∷ server_rule ∷ flag_rule ∷ [])
 
 abbrev node_shape : Shape
 node_shape = built_of (codes "node")
-    (name_rule ∷ mesh_rule ∷ state_rule ∷ first_rule ∷ log_rule ∷ time_rule ∷ socket_rule ∷ flag_rule ∷ [])
+    (name_rule ∷ mesh_rule ∷ state_rule ∷ first_rule ∷ threads_rule ∷ log_rule ∷ time_rule ∷ socket_rule ∷ flag_rule
+    ∷ [])
 
 abbrev check_shape : Shape
 check_shape = built_of (codes "check") (file_rule ∷ flag_rule ∷ [])
@@ -262,12 +266,15 @@ serve_keeps = (
           (
             value_keeps false serve_shape.rules end_rule refl,
             (
-              value_keeps false serve_shape.rules log_rule refl,
+              value_keeps false serve_shape.rules threads_rule refl,
               (
-                value_keeps false serve_shape.rules time_rule refl,
+                value_keeps false serve_shape.rules log_rule refl,
                 (
-                  value_keeps false serve_shape.rules socket_rule refl,
-                  (help_keeps false (Each (RowFits serve_shape.rules)) flag_rule, tt),
+                  value_keeps false serve_shape.rules time_rule refl,
+                  (
+                    value_keeps false serve_shape.rules socket_rule refl,
+                    (help_keeps false (Each (RowFits serve_shape.rules)) flag_rule, tt),
+                  ),
                 ),
               ),
             ),
@@ -292,12 +299,15 @@ serve_defaults = (
           (
             default_keeps serve_shape.rules end_rule refl,
             (
-              default_keeps serve_shape.rules log_rule refl,
+              default_keeps serve_shape.rules threads_rule refl,
               (
-                default_keeps serve_shape.rules time_rule refl,
+                default_keeps serve_shape.rules log_rule refl,
                 (
-                  default_keeps serve_shape.rules socket_rule refl,
-                  (default_keeps serve_shape.rules flag_rule refl, tt),
+                  default_keeps serve_shape.rules time_rule refl,
+                  (
+                    default_keeps serve_shape.rules socket_rule refl,
+                    (default_keeps serve_shape.rules flag_rule refl, tt),
+                  ),
                 ),
               ),
             ),
@@ -333,20 +343,28 @@ word_there rows =
     defaults_stay (codes "word") (drop 5 serve_shape.rules) (with_default before seed_rule)
     (default_comes seed_rule (codes "0") before)
 
+loops_there : (rows : List Row) → has_row (codes "loops") (fold with_default rows serve_shape.rules) ≡ true
+loops_there rows =
+    let early = with_default (with_default rows nodes_rule) port_rule in
+    let later = with_default (with_default (with_default early shards_rule) inc_rule) seed_rule in
+    let before = with_default later end_rule in
+    defaults_stay (codes "loops") (drop 7 serve_shape.rules) (with_default before threads_rule)
+    (default_comes threads_rule (codes "1") before)
+
 level_there : (rows : List Row) → has_row (codes "log-level") (fold with_default rows serve_shape.rules) ≡ true
 level_there rows =
     let early = with_default (with_default rows nodes_rule) port_rule in
     let later = with_default (with_default (with_default early shards_rule) inc_rule) seed_rule in
-    let before = with_default later end_rule in
-    defaults_stay (codes "log-level") (drop 7 serve_shape.rules) (with_default before log_rule)
+    let before = with_default (with_default later end_rule) threads_rule in
+    defaults_stay (codes "log-level") (drop 8 serve_shape.rules) (with_default before log_rule)
     (default_comes log_rule (codes "info") before)
 
 seconds_there : (rows : List Row) → has_row (codes "drain-seconds") (fold with_default rows serve_shape.rules) ≡ true
 seconds_there rows =
     let early = with_default (with_default rows nodes_rule) port_rule in
     let later = with_default (with_default (with_default early shards_rule) inc_rule) seed_rule in
-    let before = with_default (with_default later end_rule) log_rule in
-    defaults_stay (codes "drain-seconds") (drop 8 serve_shape.rules) (with_default before time_rule)
+    let before = with_default (with_default (with_default later end_rule) threads_rule) log_rule in
+    defaults_stay (codes "drain-seconds") (drop 9 serve_shape.rules) (with_default before time_rule)
     (default_comes time_rule (codes "30") before)
 
 serve_whole : (words : List Text)
@@ -374,6 +392,9 @@ serve_whole words e =
       stop_after =
           number_if_found end_rule (find (λ r. bytes_eq r.id (codes "stop-after")) rows)
           (row_of_rule serve_shape.rules (codes "stop-after") end_rule rows refl kept.0);
+      loops =
+          has_number serve_shape (codes "loops") threads_rule rows refl kept.0
+          (row_found (codes "loops") rows (loops_there used));
       log_level =
           has_text serve_shape (codes "log-level") log_rule rows refl kept.0
           (row_found (codes "log-level") rows (level_there used));
@@ -426,12 +447,15 @@ node_keeps = (
       (
         value_keeps false node_shape.rules first_rule refl,
         (
-          value_keeps false node_shape.rules log_rule refl,
+          value_keeps false node_shape.rules threads_rule refl,
           (
-            value_keeps false node_shape.rules time_rule refl,
+            value_keeps false node_shape.rules log_rule refl,
             (
-              value_keeps false node_shape.rules socket_rule refl,
-              (help_keeps false (Each (RowFits node_shape.rules)) flag_rule, tt),
+              value_keeps false node_shape.rules time_rule refl,
+              (
+                value_keeps false node_shape.rules socket_rule refl,
+                (help_keeps false (Each (RowFits node_shape.rules)) flag_rule, tt),
+              ),
             ),
           ),
         ),
@@ -450,12 +474,15 @@ node_defaults = (
       (
         default_keeps node_shape.rules first_rule refl,
         (
-          default_keeps node_shape.rules log_rule refl,
+          default_keeps node_shape.rules threads_rule refl,
           (
-            default_keeps node_shape.rules time_rule refl,
+            default_keeps node_shape.rules log_rule refl,
             (
-              default_keeps node_shape.rules socket_rule refl,
-              (default_keeps node_shape.rules flag_rule refl, tt),
+              default_keeps node_shape.rules time_rule refl,
+              (
+                default_keeps node_shape.rules socket_rule refl,
+                (default_keeps node_shape.rules flag_rule refl, tt),
+              ),
             ),
           ),
         ),
@@ -476,19 +503,27 @@ state_there rows =
     defaults_stay (codes "state") (drop 3 node_shape.rules) (with_default before state_rule)
     (default_comes state_rule (codes ".") before)
 
+node_loops_there : (rows : List Row) → has_row (codes "loops") (fold with_default rows node_shape.rules) ≡ true
+node_loops_there rows =
+    let early = with_default (with_default rows name_rule) mesh_rule in
+    let before = with_default (with_default early state_rule) first_rule in
+    defaults_stay (codes "loops") (drop 5 node_shape.rules) (with_default before threads_rule)
+    (default_comes threads_rule (codes "1") before)
+
 node_level_there : (rows : List Row) → has_row (codes "log-level") (fold with_default rows node_shape.rules) ≡ true
 node_level_there rows =
     let early = with_default (with_default rows name_rule) mesh_rule in
-    let before = with_default (with_default early state_rule) first_rule in
-    defaults_stay (codes "log-level") (drop 5 node_shape.rules) (with_default before log_rule)
+    let before = with_default (with_default (with_default early state_rule) first_rule) threads_rule in
+    defaults_stay (codes "log-level") (drop 6 node_shape.rules) (with_default before log_rule)
     (default_comes log_rule (codes "info") before)
 
 node_seconds_there : (rows : List Row)
     → has_row (codes "drain-seconds") (fold with_default rows node_shape.rules) ≡ true
 node_seconds_there rows =
     let early = with_default (with_default rows name_rule) mesh_rule in
-    let before = with_default (with_default (with_default early state_rule) first_rule) log_rule in
-    defaults_stay (codes "drain-seconds") (drop 6 node_shape.rules) (with_default before time_rule)
+    let later = with_default (with_default early state_rule) first_rule in
+    let before = with_default (with_default later threads_rule) log_rule in
+    defaults_stay (codes "drain-seconds") (drop 7 node_shape.rules) (with_default before time_rule)
     (default_comes time_rule (codes "30") before)
 
 node_whole : (words : List Text)
@@ -509,6 +544,9 @@ node_whole words e =
       least_inc =
           number_if_found first_rule (find (λ r. bytes_eq r.id (codes "least-inc")) rows)
           (row_of_rule node_shape.rules (codes "least-inc") first_rule rows refl kept.0);
+      loops =
+          has_number node_shape (codes "loops") threads_rule rows refl kept.0
+          (row_found (codes "loops") rows (node_loops_there used));
       log_level =
           has_text node_shape (codes "log-level") log_rule rows refl kept.0
           (row_found (codes "log-level") rows (node_level_there used));

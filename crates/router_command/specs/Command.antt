@@ -45,6 +45,7 @@ pub record AreOptions (rows : List Row) : Type 0 where
   pub inc : HasNumber (codes "inc") rows
   pub word : HasNumber (codes "word") rows
   pub stop_after : IfSome (one_of (codes "stop-after") rows) IsNumber
+  pub loops : HasNumber (codes "loops") rows
   pub log_level : IsSome (first_of (codes "log-level") rows)
   pub drain_seconds : HasNumber (codes "drain-seconds") rows
 
@@ -58,6 +59,7 @@ pub record HasOptions (rows : List Row) (given : Given) : Type 0 where
   pub inc : number_in (codes "inc") rows ≡ Some given.inc
   pub word : number_in (codes "word") rows ≡ Some given.word
   pub stop_after : number_in (codes "stop-after") rows ≡ given.stop_after
+  pub loops : number_in (codes "loops") rows ≡ Some given.loops
   pub log_level : first_of (codes "log-level") rows ≡ Some given.log_level.now
   pub drain_seconds : number_in (codes "drain-seconds") rows ≡ Some given.drain_seconds
   pub control : first_of (codes "control") rows ≡ option_map (λ text. text.now) given.control
@@ -69,6 +71,7 @@ pub record AreNodeOptions (rows : List Row) : Type 0 where
   pub mesh : IsSome (first_of (codes "mesh") rows)
   pub state : IsSome (first_of (codes "state") rows)
   pub least_inc : IfSome (one_of (codes "least-inc") rows) IsNumber
+  pub loops : HasNumber (codes "loops") rows
   pub log_level : IsSome (first_of (codes "log-level") rows)
   pub drain_seconds : HasNumber (codes "drain-seconds") rows
 
@@ -80,6 +83,7 @@ pub record HasNodeOptions (rows : List Row) (given : NodeGiven) : Type 0 where
   pub mesh : first_of (codes "mesh") rows ≡ Some given.mesh.now
   pub state : first_of (codes "state") rows ≡ Some given.state.now
   pub least_inc : number_in (codes "least-inc") rows ≡ given.least_inc
+  pub loops : number_in (codes "loops") rows ≡ Some given.loops
   pub log_level : first_of (codes "log-level") rows ≡ Some given.log_level.now
   pub drain_seconds : number_in (codes "drain-seconds") rows ≡ Some given.drain_seconds
   pub control : first_of (codes "control") rows ≡ option_map (λ text. text.now) given.control

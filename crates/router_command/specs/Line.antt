@@ -54,6 +54,10 @@ text_rule name = record (new_rule name) {
   value_names = 1;
 }
 
+-- how many loops share the shards of a server
+abbrev pub loops_rule : Rule
+loops_rule = with_value (number_rule (codes "loops")) (codes "1")
+
 -- how grave an event has to be to be told
 abbrev pub level_rule : Rule
 level_rule = with_value (text_rule (codes "log-level")) (codes "info")
@@ -69,7 +73,8 @@ seconds_rule = with_value (number_rule (codes "drain-seconds")) (codes "30")
 -- with the options of every server that runs
 abbrev pub with_running : App → App
 with_running command =
-    with_rule (with_rule (with_rule command level_rule) seconds_rule) control_rule
+    with_rule (with_rule (with_rule (with_rule command loops_rule) level_rule) seconds_rule)
+    control_rule
 
 -- `serve`, with all its options
 abbrev pub serve_command : App

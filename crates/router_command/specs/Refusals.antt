@@ -7,9 +7,9 @@ use Rattle.router_command.specs.Levels.{level_named}
 use Rattle.router_command.specs.Ranges.{range_of}
 use Rattle.router_command.specs.declared.options.TheConstants.{MOST_PATH_BYTES}
 use Rattle.router_command.specs.declared.options.OptionFault.{OptionFault}
-use Rattle.router_command.specs.declared.options.OptionFault.TheVariants.{BadValue, TooManyPorts, NoLevel, BadPath, BadName}
+use Rattle.router_command.specs.declared.options.OptionFault.TheVariants.{BadValue, TooManyPorts, TooManyLoops, NoLevel, BadPath, BadName}
 use Rattle.router_command.specs.declared.options.OptionName.{OptionName}
-use Rattle.router_command.specs.declared.options.OptionName.TheVariants.{Nodes, Port, Shards, Inc, StopAfter, LeastInc, DrainSeconds}
+use Rattle.router_command.specs.declared.options.OptionName.TheVariants.{Nodes, Port, Shards, Inc, StopAfter, LeastInc, Loops, DrainSeconds}
 use Rattle.router_command.specs.declared.options.NodeGiven.{NodeGiven}
 use Rattle.router_command.specs.declared.options.Given.{Given}
 
@@ -22,6 +22,10 @@ value_fault name value =
 -- the last port would be above the greatest one
 unfoldable pub ports_fault : ℕ → ℕ → Option OptionFault
 ports_fault port nodes = if nat_lt 65536 (port + 2 * nodes) then Some TooManyPorts else None
+
+-- a server would have more loops than shards
+unfoldable pub loops_fault : ℕ → ℕ → Option OptionFault
+loops_fault loops shards = if nat_lt shards loops then Some TooManyLoops else None
 
 -- the text is no level
 unfoldable pub level_fault : List ℕ → Option OptionFault
@@ -44,16 +48,19 @@ given_fault given =
     (option_or (value_fault Shards given.shards)
     (option_or (value_fault Inc given.inc)
     (option_or (option_and_then (λ count. value_fault StopAfter count) given.stop_after)
+    (option_or (value_fault Loops given.loops)
     (option_or (value_fault DrainSeconds given.drain_seconds)
     (option_or (ports_fault given.port given.nodes)
+    (option_or (loops_fault given.loops given.shards)
     (option_or (level_fault given.log_level.now)
-    (option_and_then (λ path. path_fault path.now) given.control))))))))
+    (option_and_then (λ path. path_fault path.now) given.control))))))))))
 
 -- and for one server
 abbrev pub node_fault : NodeGiven → Option OptionFault
 node_fault given =
     option_or (name_fault given.name.now)
     (option_or (option_and_then (value_fault LeastInc) given.least_inc)
+    (option_or (value_fault Loops given.loops)
     (option_or (value_fault DrainSeconds given.drain_seconds)
     (option_or (level_fault given.log_level.now)
-    (option_and_then (λ path. path_fault path.now) given.control))))
+    (option_and_then (λ path. path_fault path.now) given.control)))))

@@ -4,7 +4,7 @@ ghost use Rattle.std.specs.Prelude.{◌≡◌, IfErr, IfOk, IsSomeAnd, codes, ma
 ghost use Rattle.std.specs.String.{string_bytes};
 ghost use Rattle.clap.specs.Words.{App, FailsBy, Rule, fault_of, found_of, kind_of, new_app, new_rule, rows_of, subcommand_rows_of, takes, with_rule, with_subcommand};
 ghost use Rattle.router_command.specs.Command.{AreNodeOptions, AreOptions, AskFor, HasNodeOptions, HasOptions, IsWhole, Names};
-ghost use Rattle.router_command.specs.Line.{HasRule, IsLine, check_command, control_rule, drain_command, level_rule, match_command, node_command, number_rule, program, required_rule, router, script_command, seconds_rule, serve_command, text_rule, tools, with_running, with_value};
+ghost use Rattle.router_command.specs.Line.{HasRule, IsLine, check_command, control_rule, drain_command, level_rule, loops_rule, match_command, node_command, number_rule, program, required_rule, router, script_command, seconds_rule, serve_command, text_rule, tools, with_running, with_value};
 
 use crate::options::{Given, NodeGiven};
 use clap::builder::ValueParser;
@@ -88,6 +88,18 @@ fn drain_seconds<'a>(alloc: Global) -> Arg<'a>
         "How many seconds a drain may take, 1 to 3600",
     )
     .default_value("30")
+}
+
+/// The option of how many loops share the shards of a server.
+fn loops<'a>(alloc: Global) -> Arg<'a>
+    ensures { HasRule result loops_rule }
+{
+    number(
+        alloc,
+        "loops",
+        "How many threads share the shards of each server, 1 to its shards",
+    )
+    .default_value("1")
 }
 
 /// The option of how grave an event has to be to be told.
@@ -214,7 +226,7 @@ fn with_arg<'a>(
     command?.arg(arg)
 }
 
-/// The command with the options of every server that runs: what it tells of events, and how it drains.
+/// The command with the options of every server that runs: how many loops it has, what it tells of events, and how it drains.
 fn with_running<'a>(
     alloc: Global,
     command: Result<clap::Command<'a>, AllocError>,
@@ -222,6 +234,7 @@ fn with_running<'a>(
     ensures { (app : App) → IfOk command.entry (λ command. IsLine command app)
         → IfOk result (λ command. IsLine command (with_running app)) }
 {
+    let command = with_arg(command, loops(alloc));
     let command = with_arg(command, log_level(alloc));
     let command = with_arg(command, drain_seconds(alloc));
     with_arg(command, control(alloc))
@@ -378,6 +391,7 @@ fn given_in<'a>(values: &ArgMatches<'a>) -> Given<'a>
         inc: values.get_one("inc").unwrap(),
         word: values.get_one("word").unwrap(),
         stop_after: values.get_one("stop-after"),
+        loops: values.get_one("loops").unwrap(),
         log_level: values.get_str("log-level").unwrap(),
         drain_seconds: values.get_one("drain-seconds").unwrap(),
         control: values.get_str("control"),
@@ -394,6 +408,7 @@ fn node_given_in<'a>(values: &ArgMatches<'a>) -> NodeGiven<'a>
         mesh: values.get_str("mesh").unwrap(),
         state: values.get_str("state").unwrap(),
         least_inc: values.get_one("least-inc"),
+        loops: values.get_one("loops").unwrap(),
         log_level: values.get_str("log-level").unwrap(),
         drain_seconds: values.get_one("drain-seconds").unwrap(),
         control: values.get_str("control"),

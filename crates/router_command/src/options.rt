@@ -1,10 +1,10 @@
 //! What the command line says of a mesh, and of one server of a mesh.
 
 ghost use Rattle.std.specs.Prelude.{◌≡◌, ◌≤◌, ◌<◌, ◌+◌, ◌*◌, IfOk, IfSome, Some, option_and_then};
-ghost use Rattle.router_command.specs.Ranges.{range_of, AreNumbers, AreWithin, IsPath, AreNodeValues, IsDrainTime};
+ghost use Rattle.router_command.specs.Ranges.{range_of, AreNumbers, AreWithin, IsPath, AreNodeValues, IsDrainTime, IsLoopCount};
 ghost use Rattle.std.specs.Result.{result_err};
 ghost use Rattle.router_command.specs.Levels.{level_named};
-ghost use Rattle.router_command.specs.Refusals.{given_fault, path_fault, ports_fault, value_fault, name_fault, node_fault};
+ghost use Rattle.router_command.specs.Refusals.{given_fault, path_fault, ports_fault, loops_fault, value_fault, name_fault, node_fault};
 
 use log::LevelFilter;
 use std::fmt;
@@ -26,6 +26,7 @@ pub enum OptionName {
     Inc,
     StopAfter,
     LeastInc,
+    Loops,
     DrainSeconds,
 }
 
@@ -39,6 +40,7 @@ impl OptionName {
             OptionName::Inc => "--inc",
             OptionName::StopAfter => "--stop-after",
             OptionName::LeastInc => "--least-inc",
+            OptionName::Loops => "--loops",
             OptionName::DrainSeconds => "--drain-seconds",
         }
     }
@@ -50,7 +52,7 @@ impl OptionName {
         let most = match self {
             OptionName::Nodes => MAX_NODES,
             OptionName::Port => u16::MAX as u64,
-            OptionName::Shards => MAX_SHARDS,
+            OptionName::Shards | OptionName::Loops => MAX_SHARDS,
             OptionName::Inc | OptionName::LeastInc => MAX_INCARNATION,
             OptionName::StopAfter => u64::MAX,
             OptionName::DrainSeconds => MOST_DRAIN_SECONDS,
@@ -66,6 +68,8 @@ pub enum OptionFault {
     BadValue(OptionName),
     /// The last port would be above the greatest one.
     TooManyPorts,
+    /// Each server would have more loops than shards.
+    TooManyLoops,
     /// The text is no level of what standard error tells.
     NoLevel,
     /// The path of the socket is empty, or has more than [`MOST_PATH_BYTES`].
@@ -86,6 +90,9 @@ impl Display for OptionFault {
                 "the last port, that of --port and 2 * --nodes - 1 more, is above {}",
                 u16::MAX
             ),
+            OptionFault::TooManyLoops => {
+                f.write_str("--loops is above --shards: each loop has a shard of its own")
+            }
             OptionFault::NoLevel => f.write_str("--log-level takes error, warn, info or debug"),
             OptionFault::BadPath => {
                 write!(f, "--control takes a path of 1 to {MOST_PATH_BYTES} bytes")
@@ -107,14 +114,15 @@ pub struct Given<'a> {
     pub inc: u64,
     pub word: u64,
     pub stop_after: Option<u64>,
+    pub loops: u64,
     pub log_level: &'a str,
     pub drain_seconds: u64,
     pub control: Option<&'a str>,
 }
 
 /// What a mesh is told: N servers, the first port P, K shards each, their incarnation I, the seed R, after
-/// how many clients it ends, which events standard error tells, how many seconds a drain may take, and at which path it is told to drain, where
-/// it is. (Profile.)
+/// how many clients it ends, how many loops share a server's shards, which events standard error tells, how many seconds a drain may take, and at
+/// which path it is told to drain, where it is. (Profile.)
 #[derive(Clone, Copy)]
 pub struct Options<'a> {
     pub nodes: u16,
@@ -123,6 +131,7 @@ pub struct Options<'a> {
     pub inc: Incarnation,
     pub word: u64,
     pub stop_after: Option<u64>,
+    pub loops: u64,
     pub log_level: LevelFilter,
     pub drain_seconds: u64,
     pub control: Option<&'a str>,
@@ -184,6 +193,18 @@ fn ports_within(port: u16, nodes: u16) -> Result<(), OptionFault>
     Ok(())
 }
 
+/// Refused where a server would have more loops than shards.
+#[tactic(auto, unfolding(crate::specs::Refusals::loops_fault))]
+fn loops_within(loops: u64, shards: u64) -> Result<(), OptionFault>
+    ensures few { IfOk result (λ _. loops ≤ shards) }
+    ensures refused { result_err result ≡ loops_fault loops shards }
+{
+    if loops > shards {
+        return Err(OptionFault::TooManyLoops);
+    }
+    Ok(())
+}
+
 /// Refused where there is a path that the system does not take as that of a socket.
 #[tactic(auto, unfolding(crate::specs::Refusals::path_fault))]
 pub(crate) fn control_within(path: Option<&str>) -> Result<(), OptionFault>
@@ -201,8 +222,8 @@ pub(crate) fn control_within(path: Option<&str>) -> Result<(), OptionFault>
 
 impl<'a> Options<'a> {
     /// The options of these numbers, this level and this path. Refused by the first number that is out of its range, in the order of
-    /// [`OptionName`], then where the last port would be above the greatest one, then where the text names no level, and then where the
-    /// path of the socket is empty or too long. (Profile.)
+    /// [`OptionName`], then where the last port would be above the greatest one, then where there are more loops than shards, then where the text
+    /// names no level, and then where the path of the socket is empty or too long. (Profile.)
     pub fn new(given: Given<'a>) -> Result<Options<'a>, OptionFault>
         ensures within { IfOk result AreWithin }
         ensures level { IfOk result (λ options.
@@ -220,8 +241,10 @@ impl<'a> Options<'a> {
             return Err(OptionFault::BadValue(OptionName::Inc));
         };
         stop_within(given.stop_after)?;
+        let loops = within(given.loops, OptionName::Loops)?;
         let drain_seconds = within(given.drain_seconds, OptionName::DrainSeconds)?;
         ports_within(port, nodes)?;
+        loops_within(loops, shards)?;
         let Some(log_level) = level_named(given.log_level) else {
             return Err(OptionFault::NoLevel);
         };
@@ -233,6 +256,7 @@ impl<'a> Options<'a> {
             inc,
             word: given.word,
             stop_after: given.stop_after,
+            loops,
             log_level,
             drain_seconds,
             control: given.control,
@@ -265,22 +289,24 @@ pub struct NodeGiven<'a> {
     pub mesh: &'a str,
     pub state: &'a str,
     pub least_inc: Option<u64>,
+    pub loops: u64,
     pub log_level: &'a str,
     pub drain_seconds: u64,
     pub control: Option<&'a str>,
 }
 
 /// What one server of a mesh is told: its name, the path of the file that describes the mesh, the
-/// path of the folder that keeps its incarnation, a first incarnation, where there is one, which
-/// events standard error tells, how many seconds a drain may take, 1 to
-/// [`MOST_DRAIN_SECONDS`](crate::MOST_DRAIN_SECONDS), and at which path it is told to drain, where
-/// it is. (Profile.)
+/// path of the folder that keeps its incarnation, a first incarnation, where there is one, how many
+/// loops share its shards, 1 to [`MAX_SHARDS`], which events standard error tells, how many seconds
+/// a drain may take, 1 to [`MOST_DRAIN_SECONDS`](crate::MOST_DRAIN_SECONDS), and at which path it is
+/// told to drain, where it is. (Profile.)
 #[derive(Clone, Copy)]
 pub struct NodeOptions<'a> {
     pub name: NodeId,
     pub mesh: &'a str,
     pub state: &'a str,
     pub least_inc: Option<Incarnation>,
+    pub loops: u64,
     pub log_level: LevelFilter,
     pub drain_seconds: u64,
     pub control: Option<&'a str>,
@@ -319,11 +345,13 @@ impl<'a> NodeOptions<'a> {
     /// text names no level, and then where the path of the socket is empty or too long. (Profile.)
     pub fn new(given: NodeGiven<'a>) -> Result<NodeOptions<'a>, OptionFault>
         ensures time { IfOk result (λ options. IsDrainTime options.drain_seconds) }
+        ensures loops { IfOk result (λ options. IsLoopCount options.loops) }
         ensures values { IfOk result (λ options. AreNodeValues given.entry options) }
         ensures refused { result_err result ≡ node_fault given.entry }
     {
         let name = name_read(given.name)?;
         let least_inc = least_inc_within(given.least_inc)?;
+        let loops = within(given.loops, OptionName::Loops)?;
         let drain_seconds = within(given.drain_seconds, OptionName::DrainSeconds)?;
         let Some(log_level) = level_named(given.log_level) else {
             return Err(OptionFault::NoLevel);
@@ -334,6 +362,7 @@ impl<'a> NodeOptions<'a> {
             mesh: given.mesh,
             state: given.state,
             least_inc,
+            loops,
             log_level,
             drain_seconds,
             control: given.control,

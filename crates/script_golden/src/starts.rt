@@ -42,6 +42,12 @@ fn numbers_told(answer: &mut Answer, numbers: &[u64], choice: Option<u64>) -> Op
     answer.tell(" ")
 }
 
+/// Tells how many loops a server has, with a blank behind.
+fn loops_told(answer: &mut Answer, loops: u64) -> Option<()> {
+    answer.tell_number("", loops);
+    answer.tell(" ")
+}
+
 /// Tells how many seconds a drain may take, and where it is told.
 fn drain_told(answer: &mut Answer, seconds: u64, control: Option<&str>) -> Option<()> {
     answer.tell_number(" ", seconds);
@@ -54,6 +60,7 @@ fn mesh_told(answer: &mut Answer, given: &Given<'_>) -> Option<()> {
     let numbers = [given.nodes, given.port, given.shards, given.inc, given.word];
     answer.tell("serve ");
     numbers_told(answer, &numbers, given.stop_after)?;
+    loops_told(answer, given.loops)?;
     answer.tell(given.log_level);
     drain_told(answer, given.drain_seconds, given.control)
 }
@@ -78,6 +85,7 @@ fn node_told(answer: &mut Answer, given: &NodeGiven<'_>) -> Option<()> {
     tell_quoted(answer, "", given.state)?;
     answer.tell(" ");
     numbers_told(answer, &[], given.least_inc)?;
+    loops_told(answer, given.loops)?;
     answer.tell(given.log_level);
     drain_told(answer, given.drain_seconds, given.control)
 }
@@ -205,7 +213,7 @@ fn number_choice(word: &str) -> Option<u64> {
 }
 
 /// What a command line says of a mesh, in the order of `serve`: servers, port, shards, incarnation, word, after how many clients it ends,
-/// what standard error tells, how many seconds a drain may take, and where it is told.
+/// loops, what standard error tells, how many seconds a drain may take, and where it is told.
 fn given_of<'a>(words: &Words<'a>) -> Given<'a> {
     Given {
         nodes: words.number(0),
@@ -214,9 +222,10 @@ fn given_of<'a>(words: &Words<'a>) -> Given<'a> {
         inc: words.number(3),
         word: words.number(4),
         stop_after: number_choice(words.at(5)),
-        log_level: words.at(6),
-        drain_seconds: words.number(7),
-        control: choice(words.at(8)),
+        loops: words.number(6),
+        log_level: words.at(7),
+        drain_seconds: words.number(8),
+        control: choice(words.at(9)),
     }
 }
 
@@ -230,6 +239,7 @@ fn options_told(answer: &mut Answer, options: &Options<'_>) -> Option<()> {
         options.word,
     ];
     numbers_told(answer, &numbers, options.stop_after)?;
+    loops_told(answer, options.loops)?;
     answer.tell_value("", &options.log_level);
     drain_told(answer, options.drain_seconds, options.control)
 }
@@ -243,16 +253,17 @@ fn options(answer: &mut Answer, words: &Words<'_>) -> Option<()> {
 }
 
 /// What a command line says of one server, in the order of `node`: its name, the file of its mesh, the folder of its
-/// incarnation, a first incarnation, what standard error tells, how many seconds a drain may take, and where it is told.
+/// incarnation, a first incarnation, loops, what standard error tells, how many seconds a drain may take, and where it is told.
 fn node_given_of<'a>(words: &Words<'a>) -> NodeGiven<'a> {
     NodeGiven {
         name: words.at(0),
         mesh: words.at(1),
         state: words.at(2),
         least_inc: number_choice(words.at(3)),
-        log_level: words.at(4),
-        drain_seconds: words.number(5),
-        control: choice(words.at(6)),
+        loops: words.number(4),
+        log_level: words.at(5),
+        drain_seconds: words.number(6),
+        control: choice(words.at(7)),
     }
 }
 
@@ -265,6 +276,7 @@ fn node_options_told(answer: &mut Answer, options: &NodeOptions<'_>) -> Option<(
     answer.tell(options.state);
     answer.tell(" ");
     numbers_told(answer, &[], options.least_inc.map(Incarnation::get))?;
+    loops_told(answer, options.loops)?;
     answer.tell_value("", &options.log_level);
     drain_told(answer, options.drain_seconds, options.control)
 }
@@ -279,7 +291,7 @@ fn node_options(answer: &mut Answer, words: &Words<'_>) -> Option<()> {
 
 /// Tells the ports of the server at this place, counted from 0, of a mesh with these options.
 fn ports(answer: &mut Answer, words: &Words<'_>) -> Option<()> {
-    let place = words.number(9).min(u64::from(u16::MAX)) as u16;
+    let place = words.number(10).min(u64::from(u16::MAX)) as u16;
     match Options::new(given_of(words)) {
         Ok(options) if place < options.nodes => {
             let (client, route) = (options.client_port(place), options.route_port(place));

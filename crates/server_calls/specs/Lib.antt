@@ -2,3 +2,5 @@
 pub mod Routed
 -- publications that a connection lends, published by a hub
 pub mod Runs
+-- which shards belong to which of a server's loops
+pub mod Loops

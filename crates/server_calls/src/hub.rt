@@ -39,8 +39,8 @@ pub trait HubCalls: Drop {
     fn receive(&mut self, frame: &Numbered) -> Result<(), Failure<HubFault>>
         ensures { routed self.old (received frame.now result) self.new };
 
-    /// Hands the jobs to the shards. May wait.
-    fn push_jobs<R: Wait>(&mut self, rt: &R)
+    /// Hands the jobs to the shards. Whether some are left to hand over, for want of memory. May wait.
+    fn push_jobs<R: Wait>(&mut self, rt: &R) -> bool
         ensures { pushed self.old self.new };
 
     /// A session with a server that has dialed, and what that is told first.

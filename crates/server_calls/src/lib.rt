@@ -18,7 +18,9 @@
 mod hub;
 mod server;
 mod shard;
+mod view;
 
 pub use hub::HubCalls;
 pub use server::ServerCalls;
 pub use shard::{NextJob, ShardCalls};
+pub use view::{LoopPlace, LoopView, loop_of_client, one_loop_owns_each_shard};

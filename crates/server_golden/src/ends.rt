@@ -29,7 +29,7 @@ pub const ENTRIES: &str = "entries on its tapes";
 #[derive(Drop)]
 pub struct End<C: ServerCalls> {
     alloc: Global,
-    server: Server<MemStream, C>,
+    server: Server<'static, MemStream, C>,
     known: Vec<Known>,
 }
 

@@ -319,13 +319,13 @@ impl<'n, H: HubCalls> HubCalls for LanedHub<'n, H> {
         self.hub.receive(frame)
     }
 
-    fn push_jobs<R: Wait>(&mut self, rt: &R) {
+    fn push_jobs<R: Wait>(&mut self, rt: &R) -> bool {
         let left = self.refusals.load(Ordering::SeqCst);
-        if left > 0 {
-            self.refusals.store(left - 1, Ordering::SeqCst);
-        } else {
-            self.hub.push_jobs(rt);
+        if left == 0 {
+            return self.hub.push_jobs(rt);
         }
+        self.refusals.store(left - 1, Ordering::SeqCst);
+        true
     }
 
     fn accept(&mut self) -> Result<(SessionId, RouteInfo), Failure<SessionFault>> {

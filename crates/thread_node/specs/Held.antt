@@ -239,6 +239,13 @@ CollectsAll hub shard came new left =
     ⊎ ((told : Result CollectResult (Failure HubFault)) × Collects hub shard told new left
     × ComesTo told came)
 
+-- While the shard of this number was held, nothing was opened or closed there that the hub had not
+-- counted.
+pub record IsCounted (number : ℕ) : Type 0 where
+  pub shard : AtWork
+  pub is : shard.part.shard ≡ number
+  pub none : shard.state.deltas ≡ []
+
 -- While the hub and the shard of this number were held.
 pub record WasCollected (number : ℕ) (came : Result (Option CollectResult) AllocError) :
     Type 0 where

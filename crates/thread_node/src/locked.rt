@@ -394,10 +394,10 @@ impl<N: NodeName> LockedHub<N> {
     }
 
     /// [`HubState::push_jobs`]. May wait.
-    pub fn push_jobs<R: Wait>(&mut self, rt: &R)
+    pub fn push_jobs<R: Wait>(&mut self, rt: &R) -> bool
         ensures { self.new ≡ self.old }
     {
-        self.state.push_jobs(rt);
+        self.state.push_jobs(rt)
     }
 
     /// [`HubState::dial`].

@@ -3,7 +3,8 @@
 ghost use Rattle.std.specs.Prelude.{◌≡◌, ◌⊎◌, None, Ok, IfOk, IfSome, IfNone};
 ghost use Rattle.std.specs.Sync.Mutex.{mutex_guard_value};
 ghost use Rattle.thread_node.specs.Held.{came_to, was_decided, was_replied, was_published, was_received, was_turned, not_attached};
-ghost use Rattle.thread_node.specs.Held.{MadeByHub, MadeByShard, RoutedByHub, WorksNext, Takes, Lacks, CollectsAll, WasCollected};
+ghost use Rattle.thread_node.specs.Held.{MadeByHub, MadeByShard, RoutedByHub, WorksNext, Takes, Lacks, CollectsAll, IsCounted, WasCollected};
+ghost use Rattle.std.specs.Bool.{OnFalse};
 
 use crate::locked::{LockedHub, LockedShard};
 use crate::node::{HubSection, ShardSection, ThreadNode};
@@ -273,9 +274,9 @@ impl<'n, N: NodeName> HubCalls for HeldHub<'n, N> {
         received_so(hub.receive(frame))
     }
 
-    fn push_jobs<R: Wait>(&mut self, rt: &R) {
+    fn push_jobs<R: Wait>(&mut self, rt: &R) -> bool {
         let hub = &mut *self.guard;
-        hub.push_jobs(rt);
+        hub.push_jobs(rt)
     }
 
     fn accept(&mut self) -> Result<(SessionId, RouteInfo), Failure<SessionFault>> {
@@ -349,6 +350,21 @@ fn own_section<'n, T: SubTable, N: NodeName, R: Wait>(
     }
 }
 
+/// Whether the hub has not counted all that was opened and closed at the shard of this number, where there is one. The hub is not held, so that
+/// loops of a server that have nothing to tell do not wait for each other. May wait.
+fn has_deltas<T: SubTable, N: NodeName, R: Wait>(
+    node: &ThreadNode<T, N>,
+    rt: &R,
+    number: u64,
+) -> bool
+    ensures { OnFalse result (Lacks N.race number ⊎ IsCounted number) }
+{
+    match own_section(node, rt, number) {
+        None => false,
+        Some(guard) => !guard.deltas().is_empty(),
+    }
+}
+
 impl<'n, T: SubTable, N: NodeName> ServerCalls for &'n ThreadNode<T, N> {
     type Shard = HeldShard<'n, T, N>;
 
@@ -359,7 +375,8 @@ impl<'n, T: SubTable, N: NodeName> ServerCalls for &'n ThreadNode<T, N> {
     ghost lacks = { λ _ number. Lacks N.race number };
 
     ghost collected = { λ _ number came.
-        WasCollected number came ⊎ (Lacks N.race number × (came ≡ Ok None)) };
+        WasCollected number came
+        ⊎ ((Lacks N.race number ⊎ IsCounted number) × (came ≡ Ok None)) };
 
     fn shards(&self) -> u64 {
         let node: &'n ThreadNode<T, N> = *self;
@@ -383,6 +400,9 @@ impl<'n, T: SubTable, N: NodeName> ServerCalls for &'n ThreadNode<T, N> {
 
     fn collect<R: Wait>(&self, rt: &R, shard: u64) -> Result<Option<CollectResult>, AllocError> {
         let node: &'n ThreadNode<T, N> = *self;
+        if !has_deltas(node, rt, shard) {
+            return Ok(None);
+        }
         let mut hub_guard = node.hub(rt);
         match own_section(node, rt, shard) {
             None => Ok(None),

@@ -1,5 +1,5 @@
-//! Tests of races, lanes and servers on several threads, and of meshes over sockets of this machine: what one
-//! thread and streams in memory can show is a case of `server_golden`. Then the incarnations that a server takes in
+//! Tests of races, lanes and servers on several threads, of the words by which loops of a server wake each other, and of
+//! meshes over sockets of this machine: what one thread and streams in memory can show is a case of `server_golden`. Then the incarnations that a server takes in
 //! real folders, and the vectors of HMAC-SHA256. There is nothing here but tests: beside the code, each of them
 //! would have that code proved once more.
 //!
@@ -21,3 +21,5 @@ mod node_tests;
 mod secret_tests;
 #[cfg(test)]
 mod serve_tests;
+#[cfg(test)]
+mod word_tests;

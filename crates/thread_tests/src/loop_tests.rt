@@ -6,7 +6,9 @@ ghost use Rattle.std.specs.Prelude.{◌≡◌};
 use crate::node_tests::{Node, report_of};
 use mio::net::{TcpListener, TcpStream};
 use mio::{Poll, Waker};
-use node_net::{PeerAddresses, Server as Connections, ServerControl, Shutdown, Sockets, WAKER};
+use node_net::{
+    LoopWord, PeerAddresses, Server as Connections, ServerControl, Shutdown, Sockets, WAKER,
+};
 use server_calls::ServerCalls;
 use server_events::{Caller, Event, EventSink, Events, LevelFilter, RefusalCause};
 use std::alloc::Global;
@@ -96,7 +98,8 @@ fn shutdown<R: Abort>(rt: &R, alloc: Global, poll: &Poll) -> Shutdown {
     let waker = Waker::new(poll.registry(), WAKER)
         .ok()
         .expect(rt, "a waker");
-    let control = ServerControl::new(waker);
+    let words = Vec::from_array(alloc, [LoopWord::new(waker)]).ok();
+    let control = ServerControl::new(words.expect(rt, "memory"));
     let servers = Vec::from_array(alloc, [control]).ok().expect(rt, "memory");
     Shutdown::new(None, servers)
 }
@@ -111,7 +114,7 @@ fn life<R: Abort>(rt: &R, alloc: Global) -> ServerIdentity {
 }
 
 /// Whether a server has streams, and each sends small messages without a pause.
-fn has_prompt_streams<C: ServerCalls>(connections: &Connections<TcpStream, C>) -> bool {
+fn has_prompt_streams<C: ServerCalls>(connections: &Connections<'_, TcpStream, C>) -> bool {
     let (mut prompt, mut all) = (0_u64, 0_u64);
     for key in 0..16 {
         if let Some(stream) = connections.stream(key) {

@@ -322,8 +322,8 @@ fn tell_of_themselves<R: Net<Stream = TcpStream> + Clock + Abort>(rt: &R, alloc:
     }
 }
 
-/// The options of a mesh of so many servers of two shards, which ends after so many clients.
-fn options(rt: &impl Abort, nodes: u64, port: u64, stop_after: u64) -> Options<'static>
+/// The options of a mesh of so many servers, with so many loops for two shards each, which ends after so many clients.
+fn options(rt: &impl Abort, nodes: u64, loops: u64, port: u64, stop_after: u64) -> Options<'static>
     ensures { AreWithin result }
 {
     let given = Given {
@@ -333,6 +333,7 @@ fn options(rt: &impl Abort, nodes: u64, port: u64, stop_after: u64) -> Options<'
         inc: 1,
         word: 0,
         stop_after: Some(stop_after),
+        loops,
         log_level: "error",
         drain_seconds: 30,
         control: None,
@@ -346,7 +347,7 @@ fn options(rt: &impl Abort, nodes: u64, port: u64, stop_after: u64) -> Options<'
 #[test]
 fn serve_two_nodes(rt: HostRuntime) {
     let alloc = rt.alloc();
-    let options = options(&rt, 2, 17_410, 2);
+    let options = options(&rt, 2, 1, 17_410, 2);
     let (served, ()) = join(
         &rt,
         || serve(&rt, alloc, &options).is_ok(),
@@ -355,10 +356,11 @@ fn serve_two_nodes(rt: HostRuntime) {
     assert!(rt; served);
 }
 
+/// Each server has two loops.
 #[test]
 fn a_queue_group_over_three_nodes(rt: HostRuntime) {
     let alloc = rt.alloc();
-    let options = options(&rt, 3, 17_420, 4);
+    let options = options(&rt, 3, 2, 17_420, 4);
     let (served, ()) = join(
         &rt,
         || serve(&rt, alloc, &options).is_ok(),
@@ -367,10 +369,11 @@ fn a_queue_group_over_three_nodes(rt: HostRuntime) {
     assert!(rt; served);
 }
 
+/// Each server has two loops.
 #[test]
 fn noise(rt: HostRuntime) {
     let alloc = rt.alloc();
-    let options = options(&rt, 2, 17_430, 3);
+    let options = options(&rt, 2, 2, 17_430, 3);
     let (served, ()) = join(
         &rt,
         || serve(&rt, alloc, &options).is_ok(),
@@ -381,7 +384,7 @@ fn noise(rt: HostRuntime) {
 
 /// The line that standard output has of the first of these servers.
 fn the_first_is_ready(rt: &impl Abort, alloc: Global) {
-    let options = options(rt, 3, 17_450, 3);
+    let options = options(rt, 3, 1, 17_450, 3);
     let line = ready_line(alloc, &options, 0).ok().expect(rt, "a line");
     assert_eq!(rt;
         line.as_str(),
@@ -394,7 +397,7 @@ fn the_first_is_ready(rt: &impl Abort, alloc: Global) {
 fn servers_have_names_and_ports_of_their_own(rt: HostRuntime) {
     let alloc = rt.alloc();
     the_first_is_ready(&rt, alloc);
-    let options = options(&rt, 3, 17_450, 3);
+    let options = options(&rt, 3, 1, 17_450, 3);
     let (served, ()) = join(
         &rt,
         || serve(&rt, alloc, &options).is_ok(),
@@ -407,7 +410,7 @@ fn servers_have_names_and_ports_of_their_own(rt: HostRuntime) {
 #[test]
 fn a_port_that_is_taken(rt: HostRuntime) -> Result<(), Fail> {
     let alloc = rt.alloc();
-    let options = options(&rt, 1, 17_440, 1);
+    let options = options(&rt, 1, 1, 17_440, 1);
     let address = SocketAddr::from((Ipv4Addr::LOCALHOST, 17_441));
     let _taken = TcpListener::bind(&rt, address)?;
     let refused = serve(&rt, alloc, &options);

@@ -31,12 +31,17 @@ unwrap-requires-5 c =
 
 pub unwrap-requires-6 : goal.unwrap-requires-6
 unwrap-requires-6 c =
-    text_there (found_of c.args.values.now) (codes "log-level") c.get_str.result c.get_str.ensures c.requires.log_level
+    number_there (found_of c.args.values.now) (codes "loops") c.get_one-7.result c.get_one-7.ensures.none
+    c.get_one-7.ensures.value c.requires.loops
 
 pub unwrap-requires-7 : goal.unwrap-requires-7
 unwrap-requires-7 c =
-    number_there (found_of c.args.values.now) (codes "drain-seconds") c.get_one-7.result c.get_one-7.ensures.none
-    c.get_one-7.ensures.value c.requires.drain_seconds
+    text_there (found_of c.args.values.now) (codes "log-level") c.get_str.result c.get_str.ensures c.requires.log_level
+
+pub unwrap-requires-8 : goal.unwrap-requires-8
+unwrap-requires-8 c =
+    number_there (found_of c.args.values.now) (codes "drain-seconds") c.get_one-8.result c.get_one-8.ensures.none
+    c.get_one-8.ensures.value c.requires.drain_seconds
 
 pub returns : goal.returns
 returns c =
@@ -66,11 +71,15 @@ returns c =
       stop_after =
           number_if_read found (codes "stop-after") c.get_one-6.result c.get_one-6.ensures.none
           c.get_one-6.ensures.value c.requires.stop_after;
+      loops =
+          number_read found (codes "loops") c.get_one-7.result c.get_one-7.ensures.none c.get_one-7.ensures.value
+          c.requires.loops
+          ∙ c.unwrap-6.ensures;
       log_level =
-          text_is found (codes "log-level") c.get_str.result c.unwrap-6.result c.get_str.ensures c.unwrap-6.ensures;
+          text_is found (codes "log-level") c.get_str.result c.unwrap-7.result c.get_str.ensures c.unwrap-7.ensures;
       drain_seconds =
-          number_read found (codes "drain-seconds") c.get_one-7.result c.get_one-7.ensures.none
-          c.get_one-7.ensures.value c.requires.drain_seconds
-          ∙ c.unwrap-7.ensures;
+          number_read found (codes "drain-seconds") c.get_one-8.result c.get_one-8.ensures.none
+          c.get_one-8.ensures.value c.requires.drain_seconds
+          ∙ c.unwrap-8.ensures;
       control = text_if_there found (codes "control") c.get_str-2.result c.get_str-2.ensures;
     }

@@ -18,13 +18,18 @@ unwrap-requires-3 c =
 
 pub unwrap-requires-4 : goal.unwrap-requires-4
 unwrap-requires-4 c =
-    text_there (found_of c.args.values.now) (codes "log-level") c.get_str-4.result c.get_str-4.ensures
-    c.requires.log_level
+    number_there (found_of c.args.values.now) (codes "loops") c.get_one-2.result c.get_one-2.ensures.none
+    c.get_one-2.ensures.value c.requires.loops
 
 pub unwrap-requires-5 : goal.unwrap-requires-5
 unwrap-requires-5 c =
-    number_there (found_of c.args.values.now) (codes "drain-seconds") c.get_one-2.result c.get_one-2.ensures.none
-    c.get_one-2.ensures.value c.requires.drain_seconds
+    text_there (found_of c.args.values.now) (codes "log-level") c.get_str-4.result c.get_str-4.ensures
+    c.requires.log_level
+
+pub unwrap-requires-6 : goal.unwrap-requires-6
+unwrap-requires-6 c =
+    number_there (found_of c.args.values.now) (codes "drain-seconds") c.get_one-3.result c.get_one-3.ensures.none
+    c.get_one-3.ensures.value c.requires.drain_seconds
 
 pub returns : goal.returns
 returns c =
@@ -37,11 +42,15 @@ returns c =
       least_inc =
           number_if_read found (codes "least-inc") c.get_one.result c.get_one.ensures.none c.get_one.ensures.value
           c.requires.least_inc;
+      loops =
+          number_read found (codes "loops") c.get_one-2.result c.get_one-2.ensures.none c.get_one-2.ensures.value
+          c.requires.loops
+          ∙ c.unwrap-4.ensures;
       log_level =
-          text_is found (codes "log-level") c.get_str-4.result c.unwrap-4.result c.get_str-4.ensures c.unwrap-4.ensures;
+          text_is found (codes "log-level") c.get_str-4.result c.unwrap-5.result c.get_str-4.ensures c.unwrap-5.ensures;
       drain_seconds =
-          number_read found (codes "drain-seconds") c.get_one-2.result c.get_one-2.ensures.none
-          c.get_one-2.ensures.value c.requires.drain_seconds
-          ∙ c.unwrap-5.ensures;
+          number_read found (codes "drain-seconds") c.get_one-3.result c.get_one-3.ensures.none
+          c.get_one-3.ensures.value c.requires.drain_seconds
+          ∙ c.unwrap-6.ensures;
       control = text_if_there found (codes "control") c.get_str-5.result c.get_str-5.ensures;
     }

@@ -4,5 +4,5 @@ use Rattle.node_net.proofs.server.Server.work_between.Goals as goal
 pub loop-place-preserved : goal.loop-place-preserved
 loop-place-preserved g c =
     between_more g.C.Shard.ShardCalls.worked g.C.Shard.ShardCalls.number (g.C.ServerCalls.lacks c.args.node)
-    c.loop-place.is_urgent c.work_one-is_urgent.result c.args.from c.loop-place.place c.loop-place.invariant
-    c.work_one-is_urgent.ensures
+    c.loop-place.is_unfinished c.work_one-is_unfinished.result c.args.from c.loop-place.place c.loop-place.invariant
+    c.work_one-is_unfinished.ensures

@@ -10,6 +10,7 @@ returns-in_default-clause-refused c =
     rw (
       ← c.in_ok-name.ensures.refused,
       ← c.in_ok-least_inc.ensures.refused,
+      ← c.in_ok-loops.ensures.refused,
       ← c.in_ok-drain_seconds.ensures.refused,
       ← (level_fails c.args.given.log_level.now none),
     )
@@ -23,6 +24,7 @@ returns-in_err-control_within-clause-refused c =
     rw (
       ← c.in_ok-name.ensures.refused,
       ← c.in_ok-least_inc.ensures.refused,
+      ← c.in_ok-loops.ensures.refused,
       ← c.in_ok-drain_seconds.ensures.refused,
       ← level,
       ← c.in_err-control_within.ensures.refused,
@@ -35,6 +37,7 @@ returns-clause-refused c =
     rw (
       ← c.in_ok-name.ensures.refused,
       ← c.in_ok-least_inc.ensures.refused,
+      ← c.in_ok-loops.ensures.refused,
       ← c.in_ok-drain_seconds.ensures.refused,
       ← level,
       ← c.in_ok-control_within.ensures.refused,

@@ -1,4 +1,4 @@
-use Rattle.mesh_serve.proofs.serving.run_server.Given as goal
+use Rattle.mesh_serve.proofs.running.run_server.Given as goal
 
 -- the server of the parts that were just made
 abbrev pub ghosts-run_named : goal.ghosts-run_named

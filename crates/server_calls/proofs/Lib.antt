@@ -1,0 +1,2 @@
+-- shards and the loops that they belong to
+pub mod LoopLemmas
