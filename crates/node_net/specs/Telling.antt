@@ -53,15 +53,27 @@ TellsFrames gave wrote key before frames old new =
     ((before ++ spelling frames ≡ []) × (new ≡ old))
     ⊎ ChangesAt (Behind (SendsFrames gave wrote before frames) IsNoted) key old new
 
+-- A session begins, or there is none: nothing is on its way, nothing is lost, nothing was cut.
+pub record IsNewMail (is_open : Bool) (mail : Mail) : Type 0 where
+  pub session : mail.is_open ≡ is_open
+  pub bytes : mail.bytes.items ≡ []
+  pub backlog : mail.backlog ≡ 0
+  pub lost : mail.is_lost ≡ false
+  pub cut : mail.is_cut ≡ false
+
 -- Under one hold of the hub at most so many frames are taken that wait for the server at this
--- place, and stand, spelt, behind what stood in its mail. Where there was no memory for that, the
--- mail says so.
+-- place, and stand, spelt, behind what stood in its mail. Where there was no memory for that, now
+-- or before, the mail says so. What else it says stays.
 pub record PostsSome {H : Type 0} (routed : H → Routed → H → Type 0) (peer count : ℕ)
     (old new : Mail) : Type 0 where
   pub frames : List Frame
   pub taken : WasRouted routed (took peer count frames)
   pub spelt :
       new.is_lost ≡ false → new.bytes.items ≡ old.bytes.items ++ spelling frames
+  pub lost : old.is_lost ≡ true → new.is_lost ≡ true
+  pub session : new.is_open ≡ old.is_open
+  pub cut : new.is_cut ≡ old.is_cut
+  pub backlog : new.backlog ≡ old.backlog
 
 -- What stands in the mail is sent to the connection at this key, and nothing to any other one; or
 -- some are lost, and the connection is given up and is sent nothing more. Where nothing stands

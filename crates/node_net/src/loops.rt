@@ -1,7 +1,8 @@
 //! What the loops of one server share: the words by which they are told to look, streams that the first loop has accepted for others, frames of others
 //! on their way to it, and how far a drain has come. `docs/LOOPS.md` has the rules, and why nobody sleeps over what was put for him.
 
-ghost use Rattle.std.specs.Prelude.{◌≡◌};
+ghost use Rattle.std.specs.Prelude.{false};
+ghost use Rattle.node_net.specs.Telling.{IsNewMail};
 
 use crate::arrivals::Arrivals;
 use crate::limits::PEER_BACKLOG;
@@ -103,7 +104,9 @@ impl Drop for Mail {
 }
 
 impl Mail {
-    fn new(alloc: Global) -> Mail {
+    fn new(alloc: Global) -> Mail
+        ensures { IsNewMail false result }
+    {
         Mail {
             is_open: false,
             bytes: Vec::new(alloc),
@@ -114,7 +117,9 @@ impl Mail {
     }
 
     /// A session begins, or has ended: nothing is on its way.
-    fn reset(&mut self, is_open: bool) {
+    fn reset(&mut self, is_open: bool)
+        ensures { IsNewMail is_open self.new }
+    {
         self.is_open = is_open;
         self.bytes.clear();
         self.backlog = 0;
@@ -290,9 +295,14 @@ impl<'l> Loops<'l> {
         self.arrivals.take(rt, place.place() as usize)
     }
 
+    /// The word of the loop at this place.
+    fn word(&self, place: LoopPlace) -> Option<&LoopWord> {
+        self.words.get(place.place() as usize)
+    }
+
     /// The loop begins to look: the first thing behind each poll. Whether it was told to.
     pub fn clear(&self, place: LoopPlace) -> bool {
-        match self.words.get(place.place() as usize) {
+        match self.word(place) {
             None => false,
             Some(word) => word.clear(),
         }
@@ -300,7 +310,7 @@ impl<'l> Loops<'l> {
 
     /// Whether the loop was told to look since it began to.
     pub fn is_told(&self, place: LoopPlace) -> bool {
-        match self.words.get(place.place() as usize) {
+        match self.word(place) {
             None => false,
             Some(word) => word.is_told(),
         }
@@ -308,7 +318,7 @@ impl<'l> Loops<'l> {
 
     /// The loop is about to poll. Whether it may sleep.
     pub fn sleep(&self, place: LoopPlace) -> bool {
-        match self.words.get(place.place() as usize) {
+        match self.word(place) {
             None => true,
             Some(word) => word.sleep(),
         }
