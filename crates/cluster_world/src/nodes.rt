@@ -9,7 +9,7 @@ ghost use Rattle.world_law.specs.State.{Cluster, World};
 ghost use Rattle.std.specs.Option.{option_map, option_copied};
 ghost use Rattle.node_core.specs.Lent.{asked_of};
 ghost use Rattle.world_law.specs.Refusals.{start_refusal, stop_refusal};
-ghost use Rattle.cluster_world.specs.Value.{slot_refusal, IsMade, InPlace, inc_in, running_in, running_of, listed_of, server_in};
+ghost use Rattle.cluster_world.specs.Value.{served_refusal, slot_refusal, IsMade, InPlace, inc_in, running_in, running_of, listed_of, server_in};
 ghost use Rattle.std.specs.List.{flat_map};
 ghost use Rattle.world_law.specs.Events.{frame_at as frame_of_number, numbered_event as numbered_frame, info_on as info_of_frame, connect_on as connect_of_frame, event_for};
 ghost use Rattle.cluster_world.specs.InCode.{event_of, items_of};
@@ -72,6 +72,66 @@ fn plan_at<T: SubTable, R: Race>(
     }
 }
 
+/// What a publish at the place is planned as; nothing where there is no such place or no server is up there.
+fn plan_in<T: SubTable, R: Race>(
+    place: Option<&Option<Node<T, R>>>,
+    conn: ConnId,
+    publication: &Pub,
+    word: u64,
+) -> Result<Option<PublishPlan>, AllocError>
+    ensures { IfOk result (λ plan.
+        IsPlannedAt (option_copied place.entry) (publication_by conn publication.now word) plan) }
+{
+    match place {
+        Some(Some(node)) => plan_at(node, conn, publication, word),
+        _ => Ok(None),
+    }
+}
+
+/// Why the server refuses the event; none of it where it hands over no frame.
+fn served_fault<T: SubTable, R: Race>(
+    node: &Node<T, R>,
+    asked: &Option<EventRef<'_>>,
+) -> Option<WorldFault>
+    ensures { result ≡ served_refusal (option_map asked_of asked.now) node.now }
+{
+    match asked {
+        None => Some(WorldFault::NoSuch),
+        Some(asked) => Some(WorldFault::Node(node.fault_of(asked)?)),
+    }
+}
+
+/// Why the event is refused at the place.
+fn fault_in<T: SubTable, R: Race>(
+    place: Option<&Option<Node<T, R>>>,
+    asked: &Option<EventRef<'_>>,
+) -> Option<WorldFault>
+    ensures { result ≡ slot_refusal (option_map asked_of asked.now) (option_copied place.entry) }
+{
+    match place {
+        None => Some(WorldFault::NoSuch),
+        Some(None) => Some(WorldFault::NodeDown),
+        Some(Some(node)) => served_fault(node, asked),
+    }
+}
+
+/// Whether a server is up at the place; none where there is no such place.
+fn is_up_in<T: SubTable, R: Race>(place: Option<&Option<Node<T, R>>>) -> Option<bool>
+    ensures { result ≡ option_map is_some (option_copied place.entry) }
+{
+    Some(place?.is_some())
+}
+
+/// The incarnation of the server at the place; none where none is up there.
+fn incarnation_in<T: SubTable, R: Race>(place: Option<&Option<Node<T, R>>>) -> Option<Incarnation>
+    ensures { result ≡ inc_in (option_copied place.entry) }
+{
+    match place {
+        Some(Some(node)) => Some(node.server().inc()),
+        _ => None,
+    }
+}
+
 /// The servers that are up, each at its place.
 pub(crate) struct Nodes<T: SubTable, R: Race> {
     alloc: Global,
@@ -110,8 +170,7 @@ impl<T: SubTable, R: Race> Nodes<T, R> {
     pub(crate) fn is_up(&self, n: usize) -> Option<bool>
         ensures { result ≡ option_map is_some (slice_get self.now n) }
     {
-        let slot = self.slots.get(n)?;
-        Some(slot.is_some())
+        is_up_in(self.slots.get(n))
     }
 
     /// Whether the server at the place, this one, knows each other one as it runs; not where one is down. Takes no memory.
@@ -175,17 +234,7 @@ impl<T: SubTable, R: Race> Nodes<T, R> {
     pub(crate) fn fault(&self, n: usize, asked: &Option<EventRef<'_>>) -> Option<WorldFault>
         ensures { result ≡ slot_refusal (option_map asked_of asked.now) (slice_get self.now n) }
     {
-        match self.slots.get(n) {
-            None => Some(WorldFault::NoSuch),
-            Some(None) => Some(WorldFault::NodeDown),
-            Some(Some(node)) => match asked {
-                None => Some(WorldFault::NoSuch),
-                Some(asked) => match node.fault_of(asked) {
-                    None => None,
-                    Some(fault) => Some(WorldFault::Node(fault)),
-                },
-            },
-        }
+        fault_in(self.slots.get(n), asked)
     }
 
     /// What a publish at the place is planned as; nothing where it is refused. It changes nothing.
@@ -199,11 +248,7 @@ impl<T: SubTable, R: Race> Nodes<T, R> {
         ensures { IfOk result (λ plan.
             IsPlannedAt (slice_get self.now n) (publication_by conn publication.now word) plan) }
     {
-        match self.slots.get(n) {
-            None => Ok(None),
-            Some(None) => Ok(None),
-            Some(Some(node)) => plan_at(node, conn, publication, word),
-        }
+        plan_in(self.slots.get(n), conn, publication, word)
     }
 
     /// Makes the step of the server at the place. Required: it is not refused. Want of memory leaves all as
@@ -251,11 +296,7 @@ impl<T: SubTable, R: Race> Nodes<T, R> {
     pub(crate) fn inc_at(&self, n: usize) -> Option<Incarnation>
         ensures { result ≡ inc_in (slice_get self.now n) }
     {
-        match self.slots.get(n) {
-            None => None,
-            Some(None) => None,
-            Some(Some(node)) => Some(node.server().inc()),
-        }
+        incarnation_in(self.slots.get(n))
     }
 }
 

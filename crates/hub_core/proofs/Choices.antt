@@ -7,3 +7,4 @@ pub mod Alone
 pub mod Local
 pub mod InMind
 pub mod Audiences
+pub mod Filled

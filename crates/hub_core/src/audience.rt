@@ -56,7 +56,7 @@ impl Weights {
         let mut servers = Vec::with_capacity(alloc, peers.len())?;
         for (place, peer) in peers.iter().enumerate() {
             let weight = weight_at(server, counts, subject, name, place, peer);
-            servers.push((server.names()[place], weight))?;
+            servers.push_reserved((server.names()[place], weight));
         }
         Ok(Weights { servers })
     }
@@ -129,7 +129,8 @@ fn weights_of(
 {
     let mut weights = Vec::with_capacity(alloc, names.len())?;
     for name in names {
-        weights.push(Weights::find(alloc, server, counts, peers, subject, name)?)?;
+        let found = Weights::find(alloc, server, counts, peers, subject, name)?;
+        weights.push_reserved(found);
     }
     Ok(weights)
 }
@@ -144,7 +145,7 @@ fn plain_at(
 {
     let mut plain = Vec::with_capacity(alloc, peers.len())?;
     for peer in peers {
-        plain.push(peer.heard.has_plain(subject))?;
+        plain.push_reserved(peer.heard.has_plain(subject));
     }
     Ok(plain)
 }
@@ -184,7 +185,7 @@ impl Audience {
     {
         let mut servers = Vec::with_capacity(alloc, self.weights.len())?;
         for weights in &self.weights {
-            servers.push(weights.pick(word))?;
+            servers.push_reserved(weights.pick(word));
         }
         Ok(servers)
     }
@@ -200,7 +201,7 @@ fn eligible_in(
 {
     let mut eligible = Vec::with_capacity(alloc, peers.len())?;
     for (place, peer) in peers.iter().enumerate() {
-        eligible.push(is_eligible(server, place, peer))?;
+        eligible.push_reserved(is_eligible(server, place, peer));
     }
     Ok(eligible)
 }

@@ -142,7 +142,8 @@ fn add_frames(
     for place in 0..peers.len() {
         let peer = &peers[place];
         if is_told(peer, count) {
-            frames.push(frame_of_change(alloc, server, place, peer, number, change)?)?;
+            let frame = frame_of_change(alloc, server, place, peer, number, change)?;
+            frames.push(frame)?;
         }
     }
     Ok(())

@@ -12,6 +12,7 @@ use crate::faults::HubFault;
 use crate::hub::Hub;
 use interest::Change;
 use route_values::Numbered;
+use std::slice;
 use subj::{Failure, MAX_COUNTER};
 
 /// What a drain does, found before anything is changed.
@@ -45,8 +46,14 @@ impl Hub {
         if let Some(fault) = self.drain_fault() {
             return Err(Failure::Refused(fault));
         }
-        let (alloc, changes) = (self.alloc, [Change::Clear]);
-        let frames = frames_of_changes(alloc, &self.server, &self.peers, self.changed, &changes)?;
+        let alloc = self.alloc;
+        let frames = frames_of_changes(
+            alloc,
+            &self.server,
+            &self.peers,
+            self.changed,
+            slice::from_ref(&Change::Clear),
+        )?;
         let cut = slow_peers(alloc, &self.peers, 1)?;
         Ok(DrainPlan { frames, cut })
     }

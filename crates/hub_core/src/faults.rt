@@ -54,12 +54,11 @@ impl HubFault {
             HubFault::BadInterest => 69,
         }
     }
-}
 
-impl Display for HubFault {
-    fn fmt<W: Write>(&self, f: &mut Formatter<W>) -> fmt::Result {
-        let text = match self {
-            HubFault::Busy(busy) => return write!(f, "{busy}"),
+    /// The refusal in words, without its values.
+    fn words(self) -> &'static str {
+        match self {
+            HubFault::Busy(_) => "a shard is a whole window behind",
             HubFault::Draining => "the server drains already",
             HubFault::TooManyQueues => "the publication would reach too many queue names",
             HubFault::Spent => "a counter has come to its limit",
@@ -71,8 +70,16 @@ impl Display for HubFault {
             HubFault::Late => "the publication or the change was taken already",
             HubFault::Gap => "the change is not the next one",
             HubFault::BadInterest => "the change does not fit what it changes",
-        };
-        f.write_str(text)
+        }
+    }
+}
+
+impl Display for HubFault {
+    fn fmt<W: Write>(&self, f: &mut Formatter<W>) -> fmt::Result {
+        match self {
+            HubFault::Busy(busy) => write!(f, "{busy}"),
+            fault => f.write_str(fault.words()),
+        }
     }
 }
 

@@ -1,6 +1,6 @@
 //! The hub, with all that it is called for.
 
-ghost use Rattle.std.specs.Prelude.{◌≡◌, ◌<◌, nat_le, not, if◌then◌else◌, ⊤, Some, None, true, false, take, length, slice_get, IfOk, OnOk, OnErr, ℕ, ◌+◌, ◌≤◌, position, []};
+ghost use Rattle.std.specs.Prelude.{◌≡◌, ◌<◌, nat_le, not, if◌then◌else◌, ⊤, Some, None, true, false, take, length, slice_get, IfOk, OnOk, OnErr, ℕ, ◌+◌, ◌≤◌, []};
 ghost use Rattle.std.specs.Option.{option_or};
 ghost use Rattle.subj.specs.Answers.{IsAnswered, IsDecided};
 ghost use Rattle.subj.specs.declared.limits.TheConstants.{MAX_COUNTER, MAX_SHARDS};
@@ -27,8 +27,6 @@ use crate::own_interest::OwnInterest;
 use crate::peers::{
     Peer, address_fault, frame_to, is_message, peer_place, put_all, snapshot_of, unknown_peers,
 };
-use crate::publishing::gather_names;
-use interest::FoundNames;
 use route_values::{Body, Numbered, SnapshotKeys};
 use std::alloc::{AllocError, Global};
 use std::cell::Cell;
@@ -462,18 +460,8 @@ impl Hub {
         if let Err(fault) = self.next_turn(finished) {
             return Some(fault);
         }
-        let subject = publication.message.subject().lent();
-        let mut names = FoundNames::new();
-        match gather_names(
-            &self.server,
-            self.counts.counts(),
-            &self.peers,
-            &subject,
-            &mut names,
-        ) {
-            Ok(()) => None,
-            Err(_) => Some(HubFault::TooManyQueues),
-        }
+        let are_few = self.has_few_names(&publication.message.subject().lent());
+        (!are_few).then_some(HubFault::TooManyQueues)
     }
 
     /// The frames that a collect of these deltas puts. It changes nothing. Refused as [`Hub::collect`] is.
@@ -487,26 +475,26 @@ impl Hub {
     }
 }
 
-/// The place of the first shard that is a window behind.
-fn first_behind(issued: Turn, finished: &[Turn]) -> Option<usize>
-    ensures { result ≡ position (is_behind issued) finished.now }
+/// Whether the shard that has finished this turn is a window behind, where the other one was issued.
+fn is_late(issued: Turn, finished: Turn) -> bool
+    ensures { result ≡ is_behind issued finished }
 {
-    let next = issued.get() + 1;
-    finished.iter().position(|turn| turn.get() + WINDOW < next)
+    finished.get() + WINDOW < issued.get() + 1
 }
 
 /// The first shard that is a window behind, of those that these turns are of.
-#[tactic(auto, using(crate::proofs::Steps::Behind::no_busy, crate::proofs::Steps::Behind::some_busy))]
 fn busy_among(issued: Turn, finished: &[Turn]) -> Option<Busy>
     ensures { result ≡ busy_of issued finished.now }
 {
-    match first_behind(issued, finished) {
-        None => None,
-        Some(place) => Some(Busy {
-            shard: place as u64 + 1,
-            finished: finished[place],
-        }),
+    for (place, last) in finished.iter().enumerate() {
+        if is_late(issued, *last) {
+            return Some(Busy {
+                shard: place as u64 + 1,
+                finished: *last,
+            });
+        }
     }
+    None
 }
 
 /// The first of so many shards that is a window behind.

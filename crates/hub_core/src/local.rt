@@ -2,11 +2,9 @@
 
 ghost use Rattle.std.specs.Prelude.{◌≡◌, ◌&&◌, ◌||◌, true, nat_lt, [], length, IfSome};
 ghost use Rattle.interest.specs.Matches.{has_plain_match};
-ghost use Rattle.hub_core.specs.Audiences.{IsAudience};
 ghost use Rattle.hub_core.specs.Choice.{is_eligible as eligible};
 ghost use Rattle.hub_core.specs.Local.{OwesLocalJob, wants_plain_from};
 
-use crate::audience::Audience;
 use crate::hub::Hub;
 use crate::peers::Peer;
 use crate::publishing::is_eligible;
@@ -42,22 +40,6 @@ fn is_wanted_elsewhere(server: &ServerIdentity, peers: &[Peer], subject: &LentSu
 }
 
 impl Hub {
-    /// The queue names of those who want the subject, where no peer is eligible: the server serves them all itself.
-    fn names_served<'a>(
-        &self,
-        subject: &LentSubject<'_>,
-        audience: &'a Audience,
-    ) -> Option<&'a QueueNames>
-        requires { IsAudience self.now.server self.now.state.counts self.now.state.peers subject.now
-            audience.now }
-        ensures { IfSome result (λ names.
-            OwesLocalJob self.now.server self.now.state subject.now names.now) }
-    {
-        let _me = self.server.me();
-        let names = self.names_alone(subject, audience)?;
-        Some(names)
-    }
-
     /// Whether no queue name wants the subject, and no peer is owed a frame of a publication on it.
     fn is_unwanted(&self, subject: &LentSubject<'_>) -> bool
         ensures { result ≡ true → OwesLocalJob self.now.server self.now.state subject.now [] }
@@ -84,7 +66,7 @@ impl Hub {
             OwesLocalJob self.now.server self.now.state subject.now queues) }
     {
         if let Some(audience) = self.audience_of(subject) {
-            if let Some(names) = self.names_served(subject, audience) {
+            if let Some(names) = self.names_alone(subject, audience) {
                 return names.try_clone().ok();
             }
             if !audience.names.as_slice().is_empty() {

@@ -19,18 +19,19 @@ fn is_of_queue(delta: &Delta) -> bool
     delta.key.queue.is_some()
 }
 
-/// Whether some delta is of a key with a queue name.
-fn has_queue_among(deltas: &[Delta]) -> bool
-    ensures { result ≡ list_any of_queue deltas.now }
-{
-    deltas.iter().any(|delta| is_of_queue(delta))
-}
-
 /// Whether a key with a queue name was counted, before these deltas or by them.
 fn is_queued_by(is_queued: bool, deltas: &[Delta]) -> bool
     ensures { result ≡ (is_queued || list_any of_queue deltas.now) }
 {
-    is_queued || has_queue_among(deltas)
+    if is_queued {
+        return true;
+    }
+    for delta in deltas {
+        if is_of_queue(delta) {
+            return true;
+        }
+    }
+    false
 }
 
 /// How many subscriptions of each key are open at the server.

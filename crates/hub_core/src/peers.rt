@@ -2,6 +2,7 @@
 
 ghost use Rattle.std.specs.Prelude.{◌≡◌, ◌≤◌, ◌<◌, ◌+◌, ◌++◌, ◌∷◌, [], Some, true, false, take, drop, length, replicate, vec_len, vec_capacity, IfOk, OnErr, slice_get, None, if◌then◌else◌};
 ghost use Rattle.std.specs.VecDeque.{deque_capacity};
+ghost use Rattle.std.specs.Option.{option_map};
 ghost use Rattle.hub_core.specs.Settled.{knows_at};
 ghost use Rattle.hub_core.specs.State.{is_new_life as is_later, peer_in_life, unknown_peer, Peer as KnownPeer, changed_at};
 ghost use Rattle.subj.specs.declared.limits.TheConstants.{ROUTE_FRAMES, MAX_INCARNATION};
@@ -184,7 +185,8 @@ pub(crate) fn unknown_peers(alloc: Global, count: usize) -> Result<Vec<Peer>, Al
 {
     let mut peers = Vec::with_capacity(alloc, count)?;
     for made in 0..count {
-        peers.push(Peer::new(alloc)?)?;
+        let peer = Peer::new(alloc)?;
+        peers.push_reserved(peer);
     }
     Ok(peers)
 }
@@ -275,14 +277,15 @@ pub(crate) fn snapshot_of(alloc: Global, counts: &Local) -> Result<SnapshotKeys,
     Ok(SnapshotKeys::from_keys(keys).unwrap())
 }
 
-/// What a refusal of interest is to a hub.
-fn fault_of_interest(fault: InterestFault) -> HubFault
-    ensures { result ≡ as_hub_fault fault }
+/// What a refusal of interest is to a hub, where there is one.
+fn fault_of_interest(fault: Option<InterestFault>) -> Option<HubFault>
+    ensures { result ≡ option_map as_hub_fault fault }
 {
     match fault {
-        InterestFault::Late => HubFault::Late,
-        InterestFault::Gap => HubFault::Gap,
-        InterestFault::UnknownKey | InterestFault::TooManyKeys => HubFault::BadInterest,
+        None => None,
+        Some(InterestFault::Late) => Some(HubFault::Late),
+        Some(InterestFault::Gap) => Some(HubFault::Gap),
+        Some(InterestFault::UnknownKey | InterestFault::TooManyKeys) => Some(HubFault::BadInterest),
     }
 }
 
@@ -314,9 +317,9 @@ fn interest_fault(heard: &View, number: u64, body: &Body) -> Option<HubFault>
     ensures { result ≡ unheard heard.now number body.now }
 {
     match body {
-        Body::Plus(weighted) => heard.up_fault(number, weighted).map(fault_of_interest),
-        Body::Minus(key) => heard.gone_fault(number, key).map(fault_of_interest),
-        Body::Snapshot(keys) => heard.snapshot_fault(number, keys).map(fault_of_interest),
+        Body::Plus(weighted) => fault_of_interest(heard.up_fault(number, weighted)),
+        Body::Minus(key) => fault_of_interest(heard.gone_fault(number, key)),
+        Body::Snapshot(keys) => fault_of_interest(heard.snapshot_fault(number, keys)),
         Body::Msg { .. } => None,
     }
 }

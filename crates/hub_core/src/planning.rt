@@ -13,6 +13,7 @@ ghost use Rattle.hub_core.specs.Chosen.{publication_by, IsPlanOf, KnowsPlain};
 ghost use Rattle.hub_core.specs.Choice.{queue_names as wanted_names};
 ghost use Rattle.hub_core.specs.Serving.{IsServed, ServesAlone};
 ghost use Rattle.hub_core.specs.Audiences.{IsAudience};
+ghost use Rattle.hub_core.specs.Local.{OwesLocalJob};
 
 use crate::audience::{Audience, asked_next};
 use crate::faults::HubFault;
@@ -235,7 +236,8 @@ impl Hub {
         is_name_wanted(&self.server, &self.counts, &self.peers, subject)
     }
 
-    /// The queue names of an audience, where no peer is eligible.
+    /// The queue names of those who want the subject, where no peer is eligible: the server serves them all itself, and owes a
+    /// publication on it to its own shards alone.
     pub(crate) fn names_alone<'a>(
         &self,
         subject: &LentSubject<'_>,
@@ -243,8 +245,10 @@ impl Hub {
     ) -> Option<&'a QueueNames>
         requires { IsAudience self.now.server self.now.state.counts self.now.state.peers subject.now
             audience.now }
-        ensures { IfSome result (λ names.
+        ensures alone { IfSome result (λ names.
             ServesAlone self.now.server self.now.state subject.now names.now) }
+        ensures local { IfSome result (λ names.
+            OwesLocalJob self.now.server self.now.state subject.now names.now) }
     {
         if !is_alone(&self.server, &self.peers) {
             return None;

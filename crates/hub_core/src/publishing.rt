@@ -1,6 +1,6 @@
 //! What a publish owes: a job for the server's own shards, a frame for each peer that is owed one, and who serves each queue name.
 
-ghost use Rattle.std.specs.Prelude.{◌≡◌, ℕ, ◌+◌, ◌<◌, ◌≤◌, ◌++◌, [], true, length, slice_get, Some, IfOk, OnOk, if◌then◌else◌, ◌*◌, ◌&&◌, ◌||◌, option_to_list, take};
+ghost use Rattle.std.specs.Prelude.{◌≡◌, ℕ, ◌+◌, ◌<◌, ◌≤◌, ◌++◌, ◌∷◌, [], true, length, slice_get, Some, IfOk, OnOk, if◌then◌else◌, ◌*◌, ◌&&◌, ◌||◌, option_to_list, take};
 ghost use Rattle.std.specs.Option.{option_copied};
 ghost use Rattle.std.specs.List.{count_by};
 ghost use Rattle.subj.specs.declared.limits.TheConstants.{MAX_QUEUE_NAMES};
@@ -65,29 +65,33 @@ fn is_owed(out: &Outgoing<'_>, place: usize, peer: &Peer, queues: &QueueNames) -
     has_plain(out, place, peer) || !queues.as_slice().is_empty()
 }
 
-/// The frame for an incarnation of the peer at the place, with these queue names.
-fn frame_with(
+/// Puts the frame for an incarnation of the peer at the place, with these queue names, behind the others.
+fn put_message(
     out: &Outgoing<'_>,
     place: usize,
     inc: Incarnation,
     queues: QueueNames,
-) -> Result<Numbered, AllocError>
+    frames: &mut Vec<Numbered>,
+) -> Result<(), AllocError>
     requires place { place < length out.now.server.now.names }
     requires first { 1 ≤ out.now.number }
     requires last { out.now.number ≤ MAX_COUNTER }
-    ensures { IfOk result (λ frame.
-        frame ≡ record {
+    ensures { OnOk result (frames.new.items
+        ≡ frames.old.items
+        ++ record {
           from = own_name out.now.server.now;
           inc = out.now.server.now.inc;
           to = name_of out.now.server.now place;
           to_inc = inc;
           number = out.now.number;
           body = Msg out.now.message.now queues;
-        }) }
+        }
+        ∷ []) }
 {
     let message = out.message.try_clone()?;
     let body = Body::Msg { message, queues };
-    Ok(frame_to(out.server, place, inc, out.number, body))
+    frames.push(frame_to(out.server, place, inc, out.number, body))?;
+    Ok(())
 }
 
 /// Puts the frame for an eligible peer behind the others, where it is owed one: where it has a plain key that matches,
@@ -120,10 +124,7 @@ fn put_frame(
     if !is_owed(out, place, peer, &queues) {
         return Ok(());
     }
-    let inc = peer.incarnation();
-    let frame = frame_with(out, place, inc, queues)?;
-    frames.push(frame)?;
-    Ok(())
+    put_message(out, place, peer.incarnation(), queues, frames)
 }
 
 /// The same for any peer: one that is not eligible is owed none.

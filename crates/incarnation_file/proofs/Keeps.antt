@@ -1,9 +1,9 @@
 -- How a start keeps the last number.
-use Rattle.std.proofs.Common.{◌≡◌, ◌⊎◌, ⊎_elim, ℕ, ◌+◌, ◌<◌, ◌≤◌, List, Option, None, Some, sym, ◌∙◌, ap, subst, inl, inr, arith}
-use Rattle.std.proofs.lemmas.Option.{same_Some, none-some}
+use Rattle.std.proofs.Common.{◌≡◌, ◌⊎◌, ⊎_elim, ℕ, ◌+◌, ◌<◌, ◌≤◌, List, Option, None, Some, sym, ◌∙◌, subst, arith}
+use Rattle.std.proofs.lemmas.Option.{same_Some}
 use Rattle.subj.specs.declared.limits.TheConstants.{MAX_INCARNATION}
 use Rattle.incarnation_file.specs.Disk.{Content, IsFound}
-use Rattle.incarnation_file.specs.Line.{IsLine, line_of}
+use Rattle.incarnation_file.specs.Line.{line_of}
 use Rattle.incarnation_file.specs.Kept.{IsAtLeast, IsKept}
 use Rattle.incarnation_file.specs.Raising.{IsLast, IsNext, number_after, ReadTells, FaultTells}
 use Rattle.incarnation_file.specs.declared.raising.RaiseFault.{RaiseFault}

@@ -350,6 +350,7 @@ fn taken_back(past: &mut Vec<Option<Vec<u8>>>, most: usize, count: usize) -> Opt
     file
 }
 
+/// That a step was not done, for a cause of this kind.
 fn failed(step: Step, kind: io::ErrorKind) -> StepFault {
     StepFault {
         step,
@@ -384,6 +385,7 @@ fn end(fails: bool, step: Step) -> Result<(), StepFault> {
     }
 }
 
+/// A copy of the file, where there is one.
 fn copied(alloc: Global, file: &Option<Vec<u8>>) -> Result<Option<Vec<u8>>, AllocError>
     ensures { IfOk result (λ copy. content copy ≡ content file.now) }
 {

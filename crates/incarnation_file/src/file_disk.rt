@@ -22,6 +22,13 @@ pub(crate) const NEW_NAME: &str = "incarnation.new";
 /// The file whose lock the server has. It is empty, and stays.
 pub(crate) const LOCK_NAME: &str = "incarnation.lock";
 
+/// The paths of the file and of the new one.
+#[derive(Drop)]
+struct Paths {
+    file: String,
+    new_file: String,
+}
+
 /// A folder of the system, opened and locked for one server.
 ///
 /// After a fault let go of it, and have the next start open the folder anew: a system may answer a
@@ -32,8 +39,7 @@ pub struct FileDisk<'a, R> {
     folder: File,
     // The lock is held until this is dropped.
     _lock: File,
-    path: String,
-    new_path: String,
+    paths: Paths,
     // The new file, as it was written last.
     new_file: Option<File>,
     mirror: MemoryDisk,
@@ -47,11 +53,19 @@ fn in_step<T>(step: Step, answer: io::Result<T>) -> Result<T, StepFault> {
     }
 }
 
+/// The path of a file in the folder.
 fn path_of(alloc: Global, folder: &str, name: &str) -> Result<String, AllocError> {
     format!(in alloc; "{folder}/{name}")
 }
 
-/// Takes the lock of the folder.
+/// The paths of both files in the folder.
+fn paths_in(alloc: Global, folder: &str) -> Result<Paths, AllocError> {
+    let file = path_of(alloc, folder, FILE_NAME)?;
+    let new_file = path_of(alloc, folder, NEW_NAME)?;
+    Ok(Paths { file, new_file })
+}
+
+/// Takes the lock that the file at this path has.
 fn lock_at<R: Files<File = File>>(rt: &R, path: &str) -> Result<File, OpenFault> {
     let mut options = OpenOptions::new();
     options.read(true).write(true).create(true);
@@ -73,6 +87,15 @@ fn lock_at<R: Files<File = File>>(rt: &R, path: &str) -> Result<File, OpenFault>
             }))
         }
     }
+}
+
+/// Takes the lock of the folder.
+fn lock_in<R: Files<File = File> + Alloc<A = Global>>(
+    rt: &R,
+    folder: &str,
+) -> Result<File, OpenFault> {
+    let path = path_of(rt.alloc(), folder, LOCK_NAME)?;
+    lock_at(rt, path.as_str())
 }
 
 /// Opens the folder and syncs it: what an earlier start renamed stays.
@@ -98,6 +121,17 @@ fn file_at<R: Files<File = File> + Alloc<A = Global>>(
     Ok(Some(in_step(Step::Read, fs::read(rt, path))?))
 }
 
+/// Opens the folder, and reads the file at this path.
+fn folder_and_file<R: Files<File = File> + Alloc<A = Global>>(
+    rt: &R,
+    folder: &str,
+    path: &str,
+) -> Result<(File, Option<Vec<u8>>), StepFault> {
+    let folder = folder_at(rt, folder)?;
+    let file = file_at(rt, path)?;
+    Ok((folder, file))
+}
+
 impl<'a, R: Files<File = File> + Alloc<A = Global>> FileDisk<'a, R> {
     /// Opens the folder at this path, takes its lock, and reads the file in it. The lock is held
     /// until the disk is dropped. (Profile.)
@@ -108,23 +142,21 @@ impl<'a, R: Files<File = File> + Alloc<A = Global>> FileDisk<'a, R> {
     /// is one of `flock`: a folder that machines share is none for this file.
     pub fn open(rt: &'a R, folder: &str) -> Result<FileDisk<'a, R>, OpenFault> {
         let alloc = rt.alloc();
-        let lock = lock_at(rt, path_of(alloc, folder, LOCK_NAME)?.as_str())?;
-        let path = path_of(alloc, folder, FILE_NAME)?;
-        let new_path = path_of(alloc, folder, NEW_NAME)?;
-        let folder = folder_at(rt, folder)?;
-        let file = file_at(rt, path.as_str())?;
+        let lock = lock_in(rt, folder)?;
+        let paths = paths_in(alloc, folder)?;
+        let (folder, file) = folder_and_file(rt, folder, paths.file.as_str())?;
         Ok(FileDisk {
             rt,
             folder,
             _lock: lock,
-            path,
-            new_path,
+            paths,
             new_file: None,
             mirror: MemoryDisk::new(alloc, file),
         })
     }
 }
 
+/// Writes these bytes to the file at this path, in place of what it has.
 fn write_file<R: Files<File = File>>(rt: &R, path: &str, bytes: &[u8]) -> io::Result<File> {
     let mut file = File::create(rt, path)?;
     file.write_all(bytes)?;
@@ -154,7 +186,7 @@ impl<R: Files<File = File> + Alloc<A = Global>> Disk for FileDisk<'_, R> {
     fn write_new(&mut self, bytes: &[u8]) -> Result<(), StepFault> {
         self.new_file = None;
         self.mirror.write_new(bytes)?;
-        let file = write_file(self.rt, self.new_path.as_str(), bytes);
+        let file = write_file(self.rt, self.paths.new_file.as_str(), bytes);
         self.new_file = Some(in_step(Step::WriteNew, file)?);
         Ok(())
     }
@@ -174,7 +206,11 @@ impl<R: Files<File = File> + Alloc<A = Global>> Disk for FileDisk<'_, R> {
     fn rename(&mut self) -> Result<(), StepFault> {
         // Noted first: a rename that fails may have been done.
         self.mirror.rename()?;
-        let renamed = fs::rename(self.rt, self.new_path.as_str(), self.path.as_str());
+        let renamed = fs::rename(
+            self.rt,
+            self.paths.new_file.as_str(),
+            self.paths.file.as_str(),
+        );
         in_step(Step::Rename, renamed)
     }
 

@@ -1,8 +1,8 @@
 //! A start of a server, which takes an incarnation that no start before it had; the line of its file; and the law of many starts.
 
-ghost use Rattle.std.specs.Prelude.{◌≡◌, ◌<◌, ◌≤◌, ◌++◌, ℕ, List, length, Some, IfOk, IfSome, IfNone, OnOk, ◌≢◌, ◌⊎◌, IfErr};
+ghost use Rattle.std.specs.Prelude.{◌≡◌, ◌<◌, ◌≤◌, ◌++◌, ◌∷◌, [], ℕ, List, length, Some, IfOk, IfSome, IfNone, OnOk, ◌≢◌, ◌⊎◌, IfErr};
 ghost use Rattle.subj.specs.declared.limits.TheConstants.{MAX_INCARNATION};
-ghost use Rattle.incarnation_file.specs.Line.{digits, value_from, checksum_from, IsLine};
+ghost use Rattle.incarnation_file.specs.Line.{body as summed, digits, value_from, checksum_from, IsLine};
 ghost use Rattle.incarnation_file.specs.Disk.{Content, IsFound, SameSet};
 ghost use Rattle.incarnation_file.specs.Kept.{IsKept, IsAfter, IsBelow};
 ghost use Rattle.incarnation_file.specs.Raising.{FaultTells, HasNoNext, IsLast, IsNext, ReadTells, number_after};
@@ -50,30 +50,43 @@ pub enum RaiseFault {
     OutOfMemory,
 }
 
+/// Tells something of the file, with its name between these texts.
+fn tell_of_file<W: Write>(f: &mut Formatter<W>, before: &str, behind: &str) -> fmt::Result {
+    write!(f, "{before}{FILE_NAME}{behind}")
+}
+
+/// Tells whose file it is, and what to do.
+fn tell_other_server<W: Write>(f: &mut Formatter<W>, server: NodeId) -> fmt::Result {
+    write!(
+        f,
+        "the file {FILE_NAME} is that of server {}: \
+        name a folder of this server's own by --state",
+        server.text()
+    )
+}
+
 impl Display for RaiseFault {
     fn fmt<W: Write>(&self, f: &mut Formatter<W>) -> fmt::Result {
         match self {
-            RaiseFault::Missing => write!(
+            RaiseFault::Missing => tell_of_file(
                 f,
-                "there is no file {FILE_NAME}: at the first start of the server give \
-                --least-inc 1; where the file was lost, give a number above all incarnations \
-                that the server had"
+                "there is no file ",
+                ": at the first start of the server give --least-inc 1; \
+                where the file was lost, give a number above all incarnations \
+                that the server had",
             ),
-            RaiseFault::Damaged => write!(
+            RaiseFault::Damaged => tell_of_file(
                 f,
-                "the file {FILE_NAME} is damaged: remove it, and give --least-inc a number \
-                above all incarnations that the server had"
+                "the file ",
+                " is damaged: remove it, and give --least-inc a number \
+                above all incarnations that the server had",
             ),
-            RaiseFault::OtherServer(server) => write!(
+            RaiseFault::OtherServer(server) => tell_other_server(f, *server),
+            RaiseFault::Spent => tell_of_file(
                 f,
-                "the file {FILE_NAME} is that of server {}: \
-                name a folder of this server's own by --state",
-                server.text()
-            ),
-            RaiseFault::Spent => write!(
-                f,
-                "the file {FILE_NAME} has the greatest incarnation: \
-                start the server under another name, with another folder"
+                "the file ",
+                " has the greatest incarnation: \
+                start the server under another name, with another folder",
             ),
             RaiseFault::Disk(fault) => Display::fmt(fault, f),
             RaiseFault::OutOfMemory => f.write_str("out of memory"),
@@ -116,6 +129,7 @@ fn push_digits(text: &mut Vec<u8>, count: u64, number: u64) -> Result<(), AllocE
     Ok(())
 }
 
+/// The checksum of these bytes.
 fn checksum(bytes: &[u8]) -> u64
     ensures { result ≡ checksum_from 0 bytes.now }
 {
@@ -126,20 +140,36 @@ fn checksum(bytes: &[u8]) -> u64
     sum
 }
 
+/// What the checksum of a line is of: the incarnation, and the name of the server.
+fn body_of(alloc: Global, incarnation: u64, server: &[u8]) -> Result<Vec<u8>, AllocError>
+    ensures { IfOk result (λ text. text.items ≡ summed server.now incarnation) }
+{
+    let mut text = Vec::new(alloc);
+    push_digits(&mut text, NUMBER_DIGITS, incarnation)?;
+    text.push(b' ')?;
+    text.extend_from_slice(server)?;
+    Ok(text)
+}
+
+/// The line with this body: its checksum before it, and a line's end behind it.
+fn line_with(alloc: Global, body: &[u8]) -> Result<Vec<u8>, AllocError>
+    ensures { IfOk result (λ text. text.items
+        ≡ digits CHECKSUM_DIGITS (checksum_from 0 body.now) ++ 32 ∷ (body.now ++ 10 ∷ [])) }
+{
+    let mut text = Vec::new(alloc);
+    push_digits(&mut text, CHECKSUM_DIGITS, checksum(body))?;
+    text.push(b' ')?;
+    text.extend_from_slice(body)?;
+    text.push(b'\n')?;
+    Ok(text)
+}
+
 /// The line that says so.
 pub(crate) fn line(alloc: Global, last: &LastStart) -> Result<Vec<u8>, AllocError>
     ensures { IfOk result (λ text. IsLine last.now.server last.now.incarnation text.items) }
 {
-    let mut body = Vec::new(alloc);
-    push_digits(&mut body, NUMBER_DIGITS, last.incarnation.get())?;
-    body.push(b' ')?;
-    body.extend_from_slice(last.server.bytes())?;
-    let mut text = Vec::new(alloc);
-    push_digits(&mut text, CHECKSUM_DIGITS, checksum(&body))?;
-    text.push(b' ')?;
-    text.extend_from_slice(&body)?;
-    text.push(b'\n')?;
-    Ok(text)
+    let body = body_of(alloc, last.incarnation.get(), last.server.bytes())?;
+    line_with(alloc, &body)
 }
 
 /// The number that decimal digits stand for, where it is no more than an incarnation may be. Other

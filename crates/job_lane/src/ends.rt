@@ -1,14 +1,16 @@
 //! The two ends of a lane.
 
-ghost use Rattle.std.specs.Prelude.{◌≡◌, ◌+◌, ◌<◌, ◌≤◌, List, [], ◌++◌, length, slice_get, None, IfOk, IfSome, IfNone, OnOk, IfErr, MatchOption};
+ghost use Rattle.std.specs.Prelude.{◌≡◌, ◌+◌, ◌<◌, ◌≤◌, List, [], ◌++◌, length, slice_get, None, IfOk, IfSome, IfNone, OnOk, IfErr, MatchOption, vec_len, vec_capacity};
+ghost use Rattle.std.specs.Arc.{arc_value};
 ghost use Rattle.job_lane.specs.Ends.{ArePopped, HadRoom, IsPopped, LackedRoom, from_hand};
+ghost use Rattle.job_lane.specs.Rule.{IsSpare};
 ghost use Rattle.job_lane.specs.Runs.{jobs_of};
 ghost use Rattle.job_lane.specs.Turns.{AreNumbered, AreNumberedBehind};
 
 use crate::counts::Count;
-use crate::rule::{Ends, RunPass, RunQueue};
+use crate::rule::{RunPass, RunQueue};
 use crate::runs::Run;
-use crate::steps::{behind_first, drain, has_room, leave, push_by, take_next};
+use crate::steps::{drain, joined, leave, new_queue, push_counted, put_behind_first, take_next};
 use job_block::JobSlice;
 use std::alloc::{AllocError, Global};
 use std::marker::Model;
@@ -91,10 +93,33 @@ impl Model for LaneOut {
         × IsGiving (jobs_of (known_by end.pass).popped) end.run };
 }
 
+/// Two owners of the queue.
+fn shared(
+    alloc: Global,
+    queue: RunQueue,
+) -> Result<(Arc<RunQueue, Global>, Arc<RunQueue, Global>), AllocError>
+    ensures { IfOk result (λ both. (arc_value both.0 ≡ queue) × (arc_value both.1 ≡ queue)) }
+{
+    let queue = Arc::new(alloc, queue)?;
+    let other = Arc::try_clone(&queue)?;
+    Ok((queue, other))
+}
+
+/// What the end that pushes keeps of a lane in which up to `cap` jobs can wait: the count of no run, and an empty list with room for all
+/// that can be left.
+fn room_for(alloc: Global, cap: usize) -> Result<(Count, Vec<Run>), AllocError>
+    ensures count { IfOk result (λ room. room.0 ≡ record { most = cap; lengths = [] }) }
+    ensures spare { IfOk result (λ room.
+        IsSpare cap room.1.items (vec_len room.1) (vec_capacity room.1)) }
+{
+    let count = Count::new(alloc, cap)?;
+    let spare = Vec::with_capacity(alloc, cap.checked_add(1).ok_or(AllocError)?)?;
+    Ok((count, spare))
+}
+
 /// The two ends of a new lane, in which up to `cap` jobs can wait. Required: `cap` is not 0.
 ///
 /// All memory of the lane is taken here: no other call takes any.
-#[tactic(auto, using(crate::proofs::Moves::forks, crate::proofs::Moves::begins))]
 pub fn lane(alloc: Global, cap: usize) -> Result<(LaneIn, LaneOut), AllocError>
     requires { 0 < cap }
     ensures of_one { IfOk result (λ ends. ends.0.lane ≡ ends.1.lane) }
@@ -105,16 +130,9 @@ pub fn lane(alloc: Global, cap: usize) -> Result<(LaneIn, LaneOut), AllocError>
         × (ends.1.hand ≡ None)
         × (ends.1.behind ≡ [])) }
 {
-    let spare = Vec::with_capacity(alloc, cap.checked_add(1).ok_or(AllocError)?)?;
-    let count = Count::new(alloc, cap)?;
-    let (queue, mut pass) = RunQueue::ruled(alloc, cap)?;
-    let reader_pass = queue.another::<Ends>(&mut pass);
-    let queue = Arc::new(alloc, queue)?;
-    let reader = LaneOut {
-        queue: Arc::try_clone(&queue)?,
-        pass: reader_pass,
-        run: None,
-    };
+    let (queue, pass, reader_pass) = new_queue(alloc, cap)?;
+    let (queue, reader_queue) = shared(alloc, queue)?;
+    let (count, spare) = room_for(alloc, cap)?;
     Ok((
         LaneIn {
             queue,
@@ -122,7 +140,11 @@ pub fn lane(alloc: Global, cap: usize) -> Result<(LaneIn, LaneOut), AllocError>
             count,
             spare,
         },
-        reader,
+        LaneOut {
+            queue: reader_queue,
+            pass: reader_pass,
+            run: None,
+        },
     ))
 }
 
@@ -134,7 +156,6 @@ impl LaneIn {
     /// of its jobs; then nothing was pushed. The contract says of that moment that at least so many jobs
     /// had been pushed: how many had been popped, this end alone can't know. The call may wait for other
     /// threads.
-    #[tactic(auto, using(crate::proofs::Lists::last_snoc, crate::proofs::Lists::jobs_snoc))]
     pub fn push<R: Wait>(&mut self, rt: &R, run: Run) -> Result<(), Run>
         requires { AreNumberedBehind (length self.old.pushed) run }
         ensures lane { (self.new.lane ≡ self.old.lane) × (self.new.capacity ≡ self.old.capacity) }
@@ -145,13 +166,7 @@ impl LaneIn {
             × (self.new.pushed ≡ self.old.pushed)
             × LackedRoom self.old.capacity self.old.pushed (length run)) }
     {
-        let jobs = run.len();
-        if !has_room(rt, &self.queue, &mut self.pass, &mut self.count, jobs) {
-            return Err(run);
-        }
-        push_by(rt, &self.queue, &mut self.pass, run)?;
-        self.count.add(jobs);
-        Ok(())
+        push_counted(rt, &self.queue, &mut self.pass, &mut self.count, run)
     }
 }
 
@@ -213,7 +228,6 @@ impl LaneOut {
 /// the two ends are of one lane. What was popped, and behind it these jobs, is what was pushed. (Profile.)
 ///
 /// Takes no memory. The call may wait for other threads.
-#[tactic(auto, using(crate::proofs::Moves::merges))]
 pub fn meet<R: Wait>(rt: &R, writer: LaneIn, reader: LaneOut) -> Vec<Run>
     requires { writer.lane ≡ reader.lane }
     ensures jobs { writer.pushed ≡ reader.popped ++ jobs_of result.items }
@@ -222,7 +236,7 @@ pub fn meet<R: Wait>(rt: &R, writer: LaneIn, reader: LaneOut) -> Vec<Run>
 {
     let LaneIn {
         queue,
-        mut pass,
+        pass,
         mut spare,
         ..
     } = writer;
@@ -231,9 +245,7 @@ pub fn meet<R: Wait>(rt: &R, writer: LaneIn, reader: LaneOut) -> Vec<Run>
         run,
         ..
     } = reader;
-    queue.absorb::<Ends>(&mut pass, reader_pass);
-    if let Some(left) = behind_first(run) {
-        spare.push_reserved(left);
-    }
+    let pass = joined(&queue, pass, reader_pass);
+    put_behind_first(&mut spare, run);
     drain(rt, &queue, pass, spare)
 }

@@ -1,18 +1,48 @@
 //! The steps that the ends of a lane make at its queue, each by a pass that may.
 
-ghost use Rattle.std.specs.Prelude.{◌≡◌, ◌+◌, ◌<◌, ◌≤◌, true, false, List, MatchOption, vec_len, vec_capacity, [], ◌∷◌, ◌++◌, length, IfSome, IfNone, OnOk, IfErr};
+ghost use Rattle.std.specs.Prelude.{◌≡◌, ◌+◌, ◌<◌, ◌≤◌, true, false, List, MatchOption, vec_len, vec_capacity, [], ◌∷◌, ◌++◌, length, IfOk, IfSome, IfNone, OnOk, IfErr};
 ghost use Rattle.crossbeam_queue.specs.Passes.{view, IsPassOf, IsSamePass, ruled_capacity};
 ghost use Rattle.subj.specs.declared.jobs.Job.{Job};
 ghost use Rattle.job_lane.specs.Ends.{HadRoom, LackedRoom};
-ghost use Rattle.job_lane.specs.Rule.{AreLastLengths, IsPushing, IsPopping, total_of};
+ghost use Rattle.job_lane.specs.Rule.{AreLastLengths, IsPushing, IsPopping, log, total_of};
 ghost use Rattle.job_lane.specs.Runs.{GoesOnIn, IsFirstTurn, IsGiving, IsTaken, jobs_given, jobs_of, left_of, not_given};
 ghost use Rattle.job_lane.specs.Turns.{AreNumberedBehind};
 
 use crate::counts::Count;
-use crate::rule::{Draining, Popping, Pushing, RunPass, RunQueue};
+use crate::rule::{Draining, Ends, Popping, Pushing, RunPass, RunQueue};
 use crate::runs::Run;
+use std::alloc::{AllocError, Global};
 use std::sync::Wait;
 use subj::Turn;
+
+/// A new queue that holds up to `cap` runs, the pass that may push to it, and the one that may pop from it. Required: `cap` is not 0.
+#[tactic(auto, using(crate::proofs::Moves::forks, crate::proofs::Moves::begins))]
+pub fn new_queue(alloc: Global, cap: usize) -> Result<(RunQueue, RunPass, RunPass), AllocError>
+    requires { 0 < cap }
+    ensures capacity { IfOk result (λ new. ruled_capacity new.0 ≡ cap) }
+    ensures of_one { IfOk result (λ new. new.1.table_id ≡ new.2.table_id) }
+    ensures pushing { IfOk result (λ new.
+        IsPassOf new.0 new.1 × IsPushing (view new.1) × ((view new.1).pushed ≡ [])) }
+    ensures popping { IfOk result (λ new.
+        IsPassOf new.0 new.2 × IsPopping (view new.2) × ((view new.2).popped ≡ [])) }
+{
+    let (queue, mut pass) = RunQueue::ruled(alloc, cap)?;
+    let reader_pass = queue.another::<Ends>(&mut pass);
+    Ok((queue, pass, reader_pass))
+}
+
+/// The two passes of the queue as one, which may push and pop.
+#[tactic(auto, using(crate::proofs::Moves::merges))]
+pub fn joined(queue: &RunQueue, mut pass: RunPass, reader_pass: RunPass) -> RunPass
+    requires passes { IsPassOf queue.now pass × IsPassOf queue.now reader_pass }
+    requires pushing { IsPushing (view pass) }
+    requires popping { IsPopping (view reader_pass) }
+    ensures pass { IsPassOf queue.now result }
+    ensures both { view result ≡ log true true (view pass).pushed (view reader_pass).popped }
+{
+    queue.absorb::<Ends>(&mut pass, reader_pass);
+    pass
+}
 
 /// Whether so many jobs more can wait beside those of the last runs pushed. The runs that were taken
 /// meanwhile are counted no longer.
@@ -58,6 +88,41 @@ pub fn push_by<R: Wait>(rt: &R, queue: &RunQueue, pass: &mut RunPass, run: Run) 
         × LackedRoom (ruled_capacity queue.now) (jobs_of (view pass.old).pushed) (length run)) }
 {
     queue.push_as::<Pushing, R>(rt, pass, run)
+}
+
+/// Puts the run behind all others and counts it, where there is room for its jobs. It comes back only where there was none.
+#[tactic(auto, using(crate::proofs::Lists::last_snoc, crate::proofs::Lists::jobs_snoc))]
+pub fn push_counted<R: Wait>(
+    rt: &R,
+    queue: &RunQueue,
+    pass: &mut RunPass,
+    count: &mut Count,
+    run: Run,
+) -> Result<(), Run>
+    requires pass { IsPassOf queue.now pass.old }
+    requires pushing { IsPushing (view pass.old) }
+    requires most { count.old.most ≡ ruled_capacity queue.now }
+    requires counted { AreLastLengths (view pass.old).pushed count.old.lengths }
+    requires turns { AreNumberedBehind (length (jobs_of (view pass.old).pushed)) run }
+    ensures pass { IsPassOf queue.now pass.new }
+    ensures pushing { IsPushing (view pass.new) }
+    ensures most { count.new.most ≡ count.old.most }
+    ensures counted { AreLastLengths (view pass.new).pushed count.new.lengths }
+    ensures ok { OnOk result
+        ((jobs_of (view pass.new).pushed ≡ jobs_of (view pass.old).pushed ++ run)
+        × HadRoom count.old.most (jobs_of (view pass.old).pushed) (length run)) }
+    ensures err { IfErr result (λ back.
+        (back ≡ run)
+        × ((view pass.new).pushed ≡ (view pass.old).pushed)
+        × LackedRoom count.old.most (jobs_of (view pass.old).pushed) (length run)) }
+{
+    let jobs = run.len();
+    if !has_room(rt, queue, pass, count, jobs) {
+        return Err(run);
+    }
+    push_by(rt, queue, pass, run)?;
+    count.add(jobs);
+    Ok(())
 }
 
 /// Takes the first run.
@@ -126,12 +191,47 @@ pub fn take_next<R: Wait>(
 }
 
 /// What is left of the run behind its first job.
-pub fn behind_first(run: Option<Run>) -> Option<Run>
+fn behind_first(run: Option<Run>) -> Option<Run>
     ensures some { IfSome result (λ left. left ≡ not_given run) }
     ensures none { IfNone result (not_given run ≡ []) }
 {
     let mut run = run;
     if go_on(&mut run) { run } else { None }
+}
+
+/// Puts what is left of the run behind its first job at the end of the list. Takes no memory. Required: the list has room for it.
+#[tactic(auto, using(crate::proofs::Lists::jobs_snoc))]
+pub fn put_behind_first(runs: &mut Vec<Run>, run: Option<Run>)
+    requires { vec_len runs.old < vec_capacity runs.old }
+    ensures jobs { jobs_of runs.new.items ≡ jobs_of runs.old.items ++ not_given run }
+    ensures room { (vec_capacity runs.new ≡ vec_capacity runs.old)
+        × (vec_len runs.new ≤ vec_len runs.old + 1) }
+{
+    if let Some(left) = behind_first(run) {
+        runs.push_reserved(left);
+    }
+}
+
+/// Moves the first run that waits to the end of the list, by a pass that may push and pop. Takes no memory. Required: one waits, and the list has
+/// room for it.
+fn move_first<R: Wait>(rt: &R, queue: &RunQueue, pass: &mut RunPass, runs: &mut Vec<Run>)
+    requires pass { IsPassOf queue.now pass.old }
+    requires both { ((view pass.old).may_push ≡ true) × ((view pass.old).may_pop ≡ true) }
+    requires waits { length (view pass.old).popped < length (view pass.old).pushed }
+    requires room { vec_len runs.old < vec_capacity runs.old }
+    ensures pass { IsPassOf queue.now pass.new }
+    ensures room { (vec_capacity runs.new ≡ vec_capacity runs.old)
+        × (vec_len runs.new ≡ vec_len runs.old + 1) }
+    ensures moved { (run : List Job)
+        × (runs.new.items ≡ runs.old.items ++ run ∷ [])
+        × (view pass.new
+        ≡ log true true (view pass.old).pushed ((view pass.old).popped ++ run ∷ [])) }
+{
+    match queue.pop_as::<Draining, R>(rt, pass) {
+        Some(run) => runs.push_reserved(run),
+        // required: one waits, and nobody else pops
+        None => unreachable!(),
+    }
 }
 
 /// Moves all runs that wait behind those of the list, by a pass that may push and pop.
@@ -145,11 +245,7 @@ pub fn drain<R: Wait>(rt: &R, queue: &RunQueue, mut pass: RunPass, mut runs: Vec
 {
     let waiting = queue.len_as::<Draining, R>(rt, &mut pass);
     for _taken in 0..waiting {
-        match queue.pop_as::<Draining, R>(rt, &mut pass) {
-            Some(run) => runs.push_reserved(run),
-            // so many waited, and nobody else pops
-            None => unreachable!(),
-        }
+        move_first(rt, queue, &mut pass, &mut runs);
     }
     queue.learn_as::<Draining>(&mut pass);
     runs

@@ -10,8 +10,8 @@ use Rattle.world_law.specs.Events.{Event, Start, Stop, Receive, OnInfo, OnConnec
 use Rattle.world_law.specs.Outcomes.{Outcome, Refused, Done}
 use Rattle.world_law.specs.State.{Cluster, World}
 use Rattle.settled_law.specs.Tests.{settled_for}
-use Rattle.settled_order.specs.Counted.{placed_by}
-use Rattle.settled_order.specs.Owed.{delivery}
+use Rattle.mesh_script.specs.Counted.{placed_by}
+use Rattle.mesh_script.specs.Owed.{delivery}
 use Rattle.script_form.specs.declared.steps.Act.{Act}
 use Rattle.script_form.specs.declared.steps.Act.TheVariants as act
 use Rattle.script_form.specs.declared.steps.Step.{Step}

@@ -17,3 +17,7 @@ pub mod Matching
 -- what a program does that reads a script and plays it, over any reader and writer that tell their
 -- bytes
 pub mod Runs
+-- the work that is owed of a publication, in an order of its own
+pub mod Owed
+-- how many messages an event placed, by its outcome
+pub mod Counted

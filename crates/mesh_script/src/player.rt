@@ -11,19 +11,19 @@ ghost use Rattle.subj.specs.Servers.{place_in};
 ghost use Rattle.mesh_script.specs.Asks.{once as asked_once, Once, Tells, Delivers, act_wants, asks_for, session_in as session_told, step_wants, dial_asks, accept_asks, info_asks, next_frame as frame_after, settled_asks, deliver_asks, work_asks, steps_ask};
 ghost use Rattle.mesh_script.specs.Playing.{wants_of, Makes, MakesBehind, AsksOne, Finishes, first_standing, GoesOn, ArePlayedSafely};
 ghost use Rattle.cluster_world.specs.InCode.{event_of, outcome_of};
-ghost use Rattle.settled_order.specs.Counted.{placed_by as placed_of};
-ghost use Rattle.settled_order.specs.Owed.{delivery as work_behind};
+ghost use Rattle.mesh_script.specs.Counted.{placed_by as placed_of};
+ghost use Rattle.mesh_script.specs.Owed.{delivery as work_behind};
 ghost use Rattle.mesh_script.specs.Played.{CountsWrites, Plays, cluster_of};
 
 use crate::output::{
     Known, Output, PlayFault, put_delivered, put_end, put_line, put_placements, put_settled,
 };
+use crate::settled_order::delivery;
 use claim_race::Race;
 use cluster_world::{Event, Outcome, World};
 use node_core::{Answer, ConnEvent, OwnEvent, ShardWork};
 use route_session::SessionId;
 use script_form::{Act, Script, Step};
-use settled_order::delivery;
 use std::alloc::{AllocError, Global};
 use std::marker::Model;
 use sub_table::SubTable;

@@ -76,9 +76,11 @@ struct LoopStart {
     word: u64,
 }
 
-/// What the first loop of a server has besides: the server's sockets, and the secret by which the server knows others, where the mesh has one.
+/// The first loop of a server before it runs, with what it has besides: the server's sockets, and the secret by which the server knows others, where the
+/// mesh has one.
 #[derive(Drop)]
-struct FirstEnds {
+struct FirstLoop {
+    start: LoopStart,
     sockets: Sockets,
     secret: Option<Secret>,
 }
@@ -88,6 +90,13 @@ struct FirstEnds {
 struct SideLoop {
     start: LoopStart,
     poll: Poll,
+}
+
+/// All loops of a server before they run.
+#[derive(Drop)]
+struct ServerLoops {
+    first: FirstLoop,
+    sides: Vec<SideLoop>,
 }
 
 /// The loop at this place of a server that is planned.
@@ -118,6 +127,33 @@ fn side_loops(
         all.push(SideLoop { start, poll })?;
     }
     Ok(all)
+}
+
+/// The loops of a server that is bound.
+fn server_loops(alloc: Global, server: BoundServer) -> Result<ServerLoops, AllocError> {
+    let BoundServer {
+        planned,
+        first,
+        sockets,
+        sides,
+    } = server;
+    let start = loop_start(alloc, &planned, first)?;
+    let sides = side_loops(alloc, &planned, sides)?;
+    let PlannedServer {
+        life: _,
+        ends: _,
+        host: _,
+        word: _,
+        secret,
+    } = planned;
+    Ok(ServerLoops {
+        first: FirstLoop {
+            start,
+            sockets,
+            secret,
+        },
+        sides,
+    })
 }
 
 /// The connections of a loop, of which there are none, and which shares this with other loops, where its server has some.
@@ -161,12 +197,15 @@ fn run_first<'l, C: ServerCalls, R: Wait + Net + RandomSource + Clock>(
     rt: &R,
     alloc: Global,
     node: C,
-    start: LoopStart,
-    ends: FirstEnds,
+    first: FirstLoop,
     loops: Option<&'l Loops<'l>>,
     mesh: Mesh<'_>,
 ) -> io::Result<()> {
-    let FirstEnds { sockets, secret } = ends;
+    let FirstLoop {
+        start,
+        sockets,
+        secret,
+    } = first;
     let mut connections = connections_of(alloc, node, start, loops)?;
     if let Some(secret) = secret {
         connections.set_secret(secret);
@@ -188,26 +227,11 @@ fn run_loops<
     words: &'w [LoopWord],
     mesh: Mesh<'_>,
 ) -> io::Result<()> {
-    let BoundServer {
-        planned,
-        first,
-        sockets,
-        sides,
-    } = server;
-    let name = planned.life.name();
-    let loops = Loops::new(alloc, words, planned.life.names().len())?;
+    let name = server.planned.life.name();
+    let loops = Loops::new(alloc, words, server.planned.life.names().len())?;
     let all = &loops;
-    let start = loop_start(alloc, &planned, first)?;
+    let ServerLoops { first, sides } = server_loops(alloc, server)?;
     let shared = (!sides.is_empty()).then_some(all);
-    let sides = side_loops(alloc, &planned, sides)?;
-    let PlannedServer {
-        life: _,
-        ends: _,
-        host: _,
-        word: _,
-        secret,
-    } = planned;
-    let ends = FirstEnds { sockets, secret };
     thread::scope(thread::scope_env(), rt, |scope| {
         for side in sides {
             let run = move || mesh.hear_loop(
@@ -219,7 +243,7 @@ fn run_loops<
                 mesh.stop(rt, ServeFault::NoThread { server: name });
             }
         }
-        let ended = run_first(rt, alloc, node, start, ends, shared, mesh);
+        let ended = run_first(rt, alloc, node, first, shared, mesh);
         if ended.is_err() {
             mesh.shutdown.fail();
         }

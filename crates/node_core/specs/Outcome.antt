@@ -1,14 +1,15 @@
 -- What a step of a server comes to: its answer, what it puts into outboxes, and what closes.
-use Rattle.std.specs.Prelude.{◌≡◌, ℕ, Bool, true, false, List, [], Option, Some, None, option_to_list}
+use Rattle.std.specs.Prelude.{◌≡◌, ℕ, Bool, true, false, List, [], length, Option, Some, None, option_to_list}
 use Rattle.subj.specs.Servers.{ServerIdentity}
 use Rattle.subj.specs.declared.identities.SubId.{SubId}
 use Rattle.route_values.specs.declared.frames.RouteFrame.{RouteFrame}
+use Rattle.shard_core.specs.declared.calls.Begun.{Begun}
 use Rattle.shard_core.specs.declared.calls.Placed.{Placed}
 use Rattle.shard_core.specs.Puts.{put_by}
 use Rattle.shard_core.specs.ShardSteps.{shard_answer, shut_by, ended_of}
 use Rattle.node_parts.specs.declared.lines.Claimed.{Claimed}
 use Rattle.node_parts.specs.declared.lines.Claimed.TheVariants as code
-use Rattle.node_law.specs.Answers.{Answer, Nothing, Won, Lost, Nobody, node_answer}
+use Rattle.node_law.specs.Answers.{Answer, Nothing, Began, Won, Lost, Nobody, node_answer}
 use Rattle.node_law.specs.AsLaw.{Part, part_of}
 use Rattle.node_core.specs.declared.did.Did.{Did}
 use Rattle.node_core.specs.declared.node.stepping.ReplyPuts.{ReplyPuts}
@@ -50,20 +51,7 @@ outcome_of server a e won = record {
   ended = ended_at (part_of server a e won);
 }
 
--- what a claim answers
-abbrev pub told_of_claim : Claimed → Answer
-told_of_claim code.Nobody = Nobody
-told_of_claim code.Lost = Lost
-told_of_claim (code.Won sub placed ended) = Won sub
-
--- a step of this event, with what it answers
-pub record Answers (old : Served) (event : NodeEvent) (answer : Answer) (new : Served) :
-    Type 0 where
-  pub won : Bool
-  pub step : DoesStep old event won new
-  pub told : answer ≡ node_answer old.server old.node event won
-
--- and with all that it comes to
+-- a step of this event, with all that it comes to
 pub record Does (old : Served) (event : NodeEvent) (outcome : Outcome) (new : Served) : Type 0 where
   pub won : Bool
   pub step : DoesStep old event won new
@@ -77,6 +65,25 @@ did_of did = record {
   frames = did.frames.items;
   shut = did.shut.items;
   ended = did.ended.items;
+}
+
+-- ---- where nothing is put for a connection, and nothing closes
+
+-- the answer, with these frames
+abbrev pub with_frames : Answer → List RouteFrame → Outcome
+with_frames answer frames =
+    record { answer = answer; entries = []; frames = frames; shut = []; ended = [] }
+
+-- ---- a begin
+
+-- what it comes to
+abbrev pub begin_outcome : Begun → Outcome
+begin_outcome begun = record {
+  answer = Began begun.given (length begun.closed.items);
+  entries = begun.put.items;
+  frames = [];
+  shut = begun.closed.items;
+  ended = begun.ended.items;
 }
 
 -- ---- a reply
@@ -99,6 +106,12 @@ reply_outcome puts false ended = record {
 }
 
 -- ---- a claim
+
+-- what a claim answers
+abbrev pub told_of_claim : Claimed → Answer
+told_of_claim code.Nobody = Nobody
+told_of_claim code.Lost = Lost
+told_of_claim (code.Won sub placed ended) = Won sub
 
 -- copies of what was placed, and what closed
 abbrev pub entries_told : Claimed → List Placed

@@ -14,8 +14,7 @@
 //!
 //! Read first: [`Node`], [`EventRef`], [`Did`]. The files in reading order: `event_ref` and `did` are what a server
 //! is asked and what it did, `node` is the server with a call for each event, why it refuses, and a list of events;
-//! `node/stepping` is the step of any event, with its answer alone or with all that it did; `node/asked` has it for
-//! events that are lent.
+//! `node/stepping` is the step of any event, with all that it did; `node/asked` has it for events that are lent.
 #![tactic(auto)]
 
 mod answers;

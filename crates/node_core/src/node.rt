@@ -11,7 +11,7 @@ ghost use Rattle.node_law.specs.declared.events.ShardWork.TheVariants.{Attach, B
 ghost use Rattle.node_core.specs.Served.{new_server, of_session_answer, of_session_decision, of_hub_answer, refusal, ConnStep, WorkStep, BeginStep, DialStep, AcceptStep, CutStep, FramesStep, DropStep, ClaimStep, InfoStep, ConnectStep, PublishStep, ReceiveStep, CollectStep, DrainStep};
 ghost use Rattle.node_law.specs.State.{lines_from};
 ghost use Rattle.hub_core.specs.Chosen.{publication_by};
-ghost use Rattle.node_law.specs.declared.faults.NodeFault.TheVariants.{Hub};
+ghost use Rattle.node_law.specs.declared.faults.NodeFault.TheVariants.{Hub, Session};
 ghost use Rattle.node_core.specs.InCode.{event_of, own_event_of};
 ghost use Rattle.node_core.specs.OneRun.{GoesOn, IsRun, done_with, is_out_of_memory as lacks_memory, outcome_told};
 ghost use Rattle.node_law.specs.Runs.{Done, Ran};
@@ -426,6 +426,13 @@ fn of_hub_fault(fault: Option<HubFault>) -> Option<NodeFault>
     Some(NodeFault::Hub(fault?))
 }
 
+/// Why the sessions refuse, as their server's fault.
+fn of_session_fault(fault: Option<SessionFault>) -> Option<NodeFault>
+    ensures { result ≡ option_map Session fault }
+{
+    Some(NodeFault::Session(fault?))
+}
+
 impl<T: SubTable, R: Race> Node<T, R> {
     /// Why it refuses what is asked for a connection.
     fn conn_fault(&self, conn: ConnId, event: &ConnEvent) -> Option<NodeFault>
@@ -436,17 +443,6 @@ impl<T: SubTable, R: Race> Node<T, R> {
         };
         let line = &self.lines[place];
         line.conn_fault(conn, event)
-    }
-
-    /// Why it refuses a subscribe.
-    fn subscribe_fault(&self, conn: ConnId, key: &Key, sid: &Sid) -> Option<NodeFault>
-        ensures { result ≡ refusal self.now (Own (OfConn conn (Subscribe key.now sid.now))) }
-    {
-        let Some(place) = place_of_conn(self.lines.len(), conn) else {
-            return Some(NodeFault::Shard(ShardFault::NoConn));
-        };
-        let line = &self.lines[place];
-        line.subscribe_fault(conn, key, sid)
     }
 
     /// Why it refuses what a shard is asked to do.
@@ -464,16 +460,14 @@ impl<T: SubTable, R: Race> Node<T, R> {
     fn info_fault(&self, session: SessionId, info: &RouteInfo) -> Option<NodeFault>
         ensures { result ≡ refusal self.now (OnInfo session info.now) }
     {
-        let fault = self.side.info_fault(session, info)?;
-        Some(NodeFault::Session(fault))
+        of_session_fault(self.side.info_fault(session, info))
     }
 
     /// Why it refuses a `CONNECT`.
     fn connect_fault(&self, session: SessionId, connect: &RouteConnect) -> Option<NodeFault>
         ensures { result ≡ refusal self.now (OnConnect session connect.now) }
     {
-        let fault = self.side.connect_fault(session, connect)?;
-        Some(NodeFault::Session(fault))
+        of_session_fault(self.side.connect_fault(session, connect))
     }
 
     /// Why it refuses a publish.
@@ -530,12 +524,10 @@ impl<T: SubTable, R: Race> Node<T, R> {
             } => self.publish_fault(*conn, publication, *word),
             OwnEvent::Collect { shard } => self.collect_fault(*shard),
             OwnEvent::Drain => of_hub_fault(self.side.hub().drain_fault()),
-            OwnEvent::Dial { peer } => {
-                Some(NodeFault::Session(self.side.sessions().dial_fault(*peer)?))
-            }
-            OwnEvent::Accept => Some(NodeFault::Session(self.side.sessions().accept_fault()?)),
+            OwnEvent::Dial { peer } => of_session_fault(self.side.sessions().dial_fault(*peer)),
+            OwnEvent::Accept => of_session_fault(self.side.sessions().accept_fault()),
             OwnEvent::CutSession { session } => {
-                Some(NodeFault::Session(self.side.sessions().cut_fault(*session)?))
+                of_session_fault(self.side.sessions().cut_fault(*session))
             }
             OwnEvent::TakeFrames { peer, count } => self.take_frames_fault(*peer, *count),
         }
@@ -632,14 +624,7 @@ impl<T: SubTable, R: Race> Node<T, R> {
             result }
     {
         let count = self.lines.len();
-        let finished = finished_by(&self.race, count as u64);
-        let PublishPlan { job, frames } = match self
-            .side
-            .plan_publish(conn, publication, word, &finished)
-        {
-            Ok(plan) => plan,
-            Err(fault) => return of_hub(Err(fault)),
-        };
+        let PublishPlan { job, frames } = self.plan_publish(conn, publication, word)?;
         let issued = Issued {
             turn: job.turn,
             frames: frames.len(),

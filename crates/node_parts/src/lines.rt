@@ -1,7 +1,9 @@
 //! A shard, and the jobs that wait for it; which of several a number is for; and why it refuses: the first cause, told without a step.
 
 ghost use Rattle.std.specs.Prelude.{◌≡◌, ◌==◌, ◌≤◌, ◌<◌, false, length, Some, None, option_to_list, IfOk, IfSome};
+ghost use Rattle.std.specs.Option.{option_map};
 ghost use Rattle.subj.specs.Answers.{IsAnswered, IsDecided};
+ghost use Rattle.subj.specs.declared.jobs.Job.{Job};
 ghost use Rattle.subj.specs.declared.limits.TheConstants.{MAX_SHARDS, WINDOW};
 ghost use Rattle.shard_core.specs.Answers.{answer_of};
 ghost use Rattle.shard_core.specs.Lines.{first_of};
@@ -9,6 +11,7 @@ ghost use Rattle.shard_core.specs.Shards.{waits_for};
 ghost use Rattle.shard_core.specs.ShardEvents.{Attach, Subscribe, Unsubscribe, Reply, SetHeaders, Shut, Detach, Take, Claim, End, Drain, Collect, Attached, Unsubscribed, Replied, HeadersSet, WasShut, Detached, Taken, Drains, Collected};
 ghost use Rattle.node_parts.specs.Lines.{LineStep, LineBegins, LineEnds, LineDrops, LineClaims, LineTakesBytes, MayClaim, WaitsNext, of_answer, of_decision};
 ghost use Rattle.node_parts.specs.Places.{place_of_conn as place_given, place_of_shard as place_counted};
+ghost use Rattle.node_law.specs.declared.faults.NodeFault.TheVariants.{Shard as by_shard};
 ghost use Rattle.node_law.specs.Settled.{is_line_settled, has_room_in};
 ghost use Rattle.node_law.specs.State.{new_line};
 ghost use Rattle.node_law.specs.Steps.{begin_of, conn_event, drop_of, event_refusal, no_job as no_job_of, line_with_job, work_event};
@@ -68,6 +71,26 @@ fn shard_decision<X>(answer: Result<X, ShardFault>) -> Result<X, NodeFault>
     match answer {
         Ok(x) => Ok(x),
         Err(fault) => Err(NodeFault::Shard(fault)),
+    }
+}
+
+/// Why a shard refuses, as its server's cause.
+fn shard_cause(fault: Option<ShardFault>) -> Option<NodeFault>
+    ensures { result ≡ option_map by_shard fault }
+{
+    match fault {
+        None => None,
+        Some(fault) => Some(NodeFault::Shard(fault)),
+    }
+}
+
+/// The turn of the job in hand.
+fn turn_in_hand<T: SubTable>(shard: &Shard<T>) -> Option<Turn>
+    ensures { result ≡ option_map (λ (job : Job). job.turn) shard.now.state.hand }
+{
+    match shard.hand() {
+        None => None,
+        Some(job) => Some(job.turn),
     }
 }
 
@@ -248,10 +271,9 @@ impl<T: SubTable> ShardWithJobs<T> {
         ensures { IsDecided (event_refusal self.old (Some End))
             (λ turn. LineEnds self.old turn self.new) (self.new ≡ self.old) result }
     {
-        let Some(job) = self.shard.hand() else {
+        let Some(turn) = turn_in_hand(&self.shard) else {
             return Err(NodeFault::Shard(ShardFault::NoJob));
         };
-        let turn = job.turn;
         match self.shard.end() {
             Ok(()) => Ok(turn),
             Err(fault) => Err(NodeFault::Shard(fault)),
@@ -395,8 +417,7 @@ impl<T: SubTable> ShardWithJobs<T> {
     pub fn subscribe_fault(&self, conn: ConnId, key: &Key, sid: &Sid) -> Option<NodeFault>
         ensures { result ≡ event_refusal self.now (Some (Subscribe conn key.now sid.now)) }
     {
-        let fault = self.shard.subscribe_fault(conn, key, sid)?;
-        Some(NodeFault::Shard(fault))
+        shard_cause(self.shard.subscribe_fault(conn, key, sid))
     }
 
     /// Why it refuses what is asked for a connection.
@@ -411,7 +432,7 @@ impl<T: SubTable> ShardWithJobs<T> {
             | ConnEvent::Shut { .. } => self.shard.open_fault(conn),
             ConnEvent::Detach | ConnEvent::Take { .. } => self.shard.known_fault(conn),
         };
-        Some(NodeFault::Shard(fault?))
+        shard_cause(fault)
     }
 
     /// Why a begin is refused.
@@ -420,7 +441,7 @@ impl<T: SubTable> ShardWithJobs<T> {
     {
         match self.waiting.front() {
             None => Some(no_job(&self.shard)),
-            Some(job) => Some(NodeFault::Shard(self.shard.begin_fault(job)?)),
+            Some(job) => shard_cause(self.shard.begin_fault(job)),
         }
     }
 
@@ -440,12 +461,12 @@ impl<T: SubTable> ShardWithJobs<T> {
         ensures { result ≡ event_refusal self.now (work_event work false self.now) }
     {
         match work {
-            ShardWork::Attach => Some(NodeFault::Shard(self.shard.attach_fault()?)),
+            ShardWork::Attach => shard_cause(self.shard.attach_fault()),
             ShardWork::Begin => self.begin_fault(),
-            ShardWork::Claim { index } => Some(NodeFault::Shard(self.shard.claim_fault(index)?)),
-            ShardWork::End => Some(NodeFault::Shard(self.shard.end_fault()?)),
+            ShardWork::Claim { index } => shard_cause(self.shard.claim_fault(index)),
+            ShardWork::End => shard_cause(self.shard.end_fault()),
             ShardWork::DropJob => self.drop_fault(),
-            ShardWork::DrainShard => Some(NodeFault::Shard(self.shard.drain_fault()?)),
+            ShardWork::DrainShard => shard_cause(self.shard.drain_fault()),
         }
     }
 }

@@ -28,8 +28,8 @@
 //!   last one. As a number, `last` is the largest one. An answer is a refusal's number, or what `servers` tells.
 //! - `n1.put` tells how many entries and frames the last step put, and how many connections and subscriptions it closed; `n1.names` for
 //!   how many queue names its first two frames are; `n1.text CONN|COUNT` takes the bytes of the first entries that wait.
-//! - `n1.by apply` has the events behind it made without copies of what they put, `n1.by step` as before. A step is asked as well
-//!   whether it will be refused. Behind `n1.by list` events are kept until `n1.run` makes them as one list.
+//! - An event is asked as well whether it will be refused. Behind `n1.by list` events are kept until `n1.run` makes them as one list, and behind
+//!   `n1.by step` they are made one by one again.
 //! - What could not be made for want of memory is made once more.
 //!
 //! In reading order: `runs` has what is read and written, bytes that a case puts together and what was written last, and reads and plays scripts, audits
@@ -45,11 +45,9 @@ mod starts;
 
 use golden::{Answer, Rig, Words, put};
 use incarnation_file::MemoryDisk;
-use runs::{
-    Output, audit_call, input_call, match_call, output_call, pipe_call, play_call, script_call,
-};
+use runs::Runs;
 use servers::{Servers, world_call};
-use starts::{disk_call, line_call, mesh_call};
+use starts::start_call;
 use std::alloc::{AllocError, Global};
 use std::process::ExitCode;
 
@@ -57,8 +55,7 @@ use std::process::ExitCode;
 #[derive(Drop)]
 struct ScriptRig {
     alloc: Global,
-    input: Vec<u8>,
-    output: Output,
+    runs: Runs,
     servers: Servers,
     disk: MemoryDisk,
 }
@@ -68,8 +65,7 @@ impl ScriptRig {
     fn new(alloc: Global) -> ScriptRig {
         ScriptRig {
             alloc,
-            input: Vec::new(alloc),
-            output: Output::new(alloc),
+            runs: Runs::new(alloc),
             servers: Servers::new(alloc),
             disk: MemoryDisk::new(alloc, None),
         }
@@ -80,27 +76,19 @@ impl ScriptRig {
         let (of, call) = name.split_once('.').unwrap_or((name, ""));
         let alloc = self.alloc;
         match of {
-            "input" => input_call(answer, &mut self.input, alloc, call, words),
-            "output" => output_call(answer, &mut self.output, alloc, call, words),
-            "script" => script_call(answer, alloc, call, words),
-            "play" => play_call(answer, &mut self.output, alloc, &self.input, call, words),
-            "audit" => audit_call(answer, &self.output, alloc, &self.input, call, words),
-            "pipe" => pipe_call(answer, &mut self.output, alloc, &self.input, call, words),
-            "match" => match_call(answer, alloc, words),
             "world" => world_call(answer, alloc, call, words),
-            "line" => line_call(answer, alloc, call, words),
-            "mesh" => mesh_call(answer, alloc, words),
-            "disk" => disk_call(answer, &mut self.disk, alloc, call, words),
+            "line" | "mesh" | "disk" => {
+                start_call(answer, &mut self.disk, alloc, of, call, words)
+            }
             "n1" | "n2" | "n3" => self.servers.call(answer, of, call, words),
-            _ => answer.tell("no such call"),
+            _ => self.runs.call(answer, alloc, of, call, words),
         }
     }
 }
 
 impl Rig for ScriptRig {
     fn renew(&mut self) -> Result<(), AllocError> {
-        self.input.clear();
-        self.output.clear();
+        self.runs.clear();
         self.servers.renew();
         put(&mut self.disk, MemoryDisk::new(self.alloc, None));
         Ok(())

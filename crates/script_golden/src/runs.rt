@@ -20,17 +20,21 @@ use sub_trie::TrieTable;
 use subj::Failure;
 use wire_cut::{MemSink, MemSource, Raw, Source};
 
+/// Puts the text, with these digits in place of each `#`.
+fn push_filled(out: &mut Vec<u8>, text: &[u8], digits: &[u8]) -> Result<(), AllocError> {
+    let mut between: &[u8] = b"";
+    for part in text.split(|byte| *byte == b'#') {
+        out.extend_from_slice(between)?;
+        out.extend_from_slice(part)?;
+        between = digits;
+    }
+    Ok(())
+}
+
 /// Puts the text, with this number in place of each `#`.
 fn push_numbered(out: &mut Vec<u8>, text: &[u8], number: u64) -> Result<(), AllocError> {
     let mut digits = Buffer::new();
-    let digits = digits.format(number).as_bytes();
-    let mut parts = text.split(|byte| *byte == b'#');
-    out.extend_from_slice(parts.next().unwrap_or(b""))?;
-    for part in parts {
-        out.extend_from_slice(digits)?;
-        out.extend_from_slice(part)?;
-    }
-    Ok(())
+    push_filled(out, text, digits.format(number).as_bytes())
 }
 
 /// Puts the bytes that the words stand for, and this behind them.
@@ -50,7 +54,7 @@ fn put_each(input: &mut Vec<u8>, alloc: Global, words: &Words<'_>) -> Option<()>
 }
 
 /// `put BYTES`, `line BYTES`, which LF ends, or `each FIRST|LAST|BYTES`.
-pub fn input_call(
+fn input_call(
     answer: &mut Answer,
     input: &mut Vec<u8>,
     alloc: Global,
@@ -67,14 +71,14 @@ pub fn input_call(
 
 /// What was written last, and how many of its bytes were looked at.
 #[derive(Drop)]
-pub struct Output {
+struct Output {
     bytes: Vec<u8>,
     seen: usize,
 }
 
 impl Output {
     /// Nothing was written.
-    pub fn new(alloc: Global) -> Output {
+    fn new(alloc: Global) -> Output {
         Output {
             bytes: Vec::new(alloc),
             seen: 0,
@@ -82,19 +86,19 @@ impl Output {
     }
 
     /// Nothing was written.
-    pub fn clear(&mut self) {
+    fn clear(&mut self) {
         self.bytes.clear();
         self.seen = 0;
     }
 
     /// Keeps what was written, in place of what was written before.
-    pub fn keep(&mut self, written: &[u8]) -> Option<()> {
+    fn keep(&mut self, written: &[u8]) -> Option<()> {
         self.clear();
         self.bytes.extend_from_slice(written).ok()
     }
 
     /// All that was written last.
-    pub fn bytes(&self) -> &[u8] {
+    fn bytes(&self) -> &[u8] {
         self.bytes.as_slice()
     }
 
@@ -132,14 +136,23 @@ fn rest(answer: &mut Answer, output: &mut Output) -> Option<()> {
     Some(())
 }
 
+/// Looks at the text with this number in place of each `#`. Gives whether that comes next.
+fn meets_numbered(
+    output: &mut Output,
+    alloc: Global,
+    text: &[u8],
+    number: u64,
+) -> Result<bool, AllocError> {
+    let mut due = Vec::new(alloc);
+    push_numbered(&mut due, text, number)?;
+    Ok(output.meets(&due))
+}
+
 /// Tells the first number, from the first to the second word, for which the third one does not come next.
 fn each(answer: &mut Answer, output: &mut Output, alloc: Global, words: &Words<'_>) -> Option<()> {
     let text = bytes_of(alloc, words.at(2)).ok()?;
-    let mut due = Vec::new(alloc);
     for number in words.number(0)..=words.number(1) {
-        due.clear();
-        push_numbered(&mut due, &text, number).ok()?;
-        if !output.meets(&due) {
+        if !meets_numbered(output, alloc, &text, number).ok()? {
             return answer.tell_number("not at ", number);
         }
     }
@@ -147,7 +160,7 @@ fn each(answer: &mut Answer, output: &mut Output, alloc: Global, words: &Words<'
 }
 
 /// `line`, `each FIRST|LAST|BYTES` or `rest`.
-pub fn output_call(
+fn output_call(
     answer: &mut Answer,
     output: &mut Output,
     alloc: Global,
@@ -267,13 +280,20 @@ impl Pieces {
         Ok(whole)
     }
 
-    /// Gives each word in turn. An empty word is none, and so is one that is about the writer.
+    /// Gives this word too, behind all else. An empty word is none, and so is one that is about the writer.
+    fn push(&mut self, alloc: Global, word: &str) -> Result<(), AllocError> {
+        if word.is_empty() || room_of(word).is_some() {
+            return Ok(());
+        }
+        self.pieces.push(piece_of(alloc, word)?)?;
+        Ok(())
+    }
+
+    /// Gives each word in turn.
     fn of_words(alloc: Global, words: &Words<'_>) -> Result<Pieces, AllocError> {
         let mut each = Pieces::new(alloc);
         for word in words.text.split('|') {
-            if !word.is_empty() && room_of(word).is_none() {
-                each.pieces.push(piece_of(alloc, word)?)?;
-            }
+            each.push(alloc, word)?;
         }
         Ok(each)
     }
@@ -327,17 +347,28 @@ fn error_of(alloc: Global, bytes: &[u8]) -> Option<Option<ScriptError>> {
     }
 }
 
+/// Puts a script of two servers with this as its one step.
+fn push_script(script: &mut Vec<u8>, step: &[u8]) -> Option<()> {
+    let before = b"{\"nodes\":[\"n1\",\"n2\"],\"shards\":1,\"steps\":[";
+    script.extend_from_slice(before).ok()?;
+    script.extend_from_slice(step).ok()?;
+    script.extend_from_slice(b"]}").ok()
+}
+
+/// A script of two servers with this as its one step.
+fn step_script(alloc: Global, step: &[u8]) -> Option<Vec<u8>> {
+    let mut script = Vec::new(alloc);
+    push_script(&mut script, step)?;
+    Some(script)
+}
+
 /// The bytes that are read: those of the words, or a script of two servers with these as its one step.
 fn script_of(alloc: Global, call: &str, words: &Words<'_>) -> Option<Vec<u8>> {
     let bytes = bytes_of(alloc, words.text).ok()?;
-    if call != "step" {
-        return Some(bytes);
+    match call {
+        "step" => step_script(alloc, &bytes),
+        _ => Some(bytes),
     }
-    let before = b"{\"nodes\":[\"n1\",\"n2\"],\"shards\":1,\"steps\":[";
-    let mut script = Vec::from_slice(alloc, before).ok()?;
-    script.extend_from_slice(&bytes).ok()?;
-    script.extend_from_slice(b"]}").ok()?;
-    Some(script)
 }
 
 /// Tells the number of the refusal, or, as a complaint, all that is told of it.
@@ -351,12 +382,7 @@ fn error_told(answer: &mut Answer, call: &str, error: Option<ScriptError>) -> Op
 }
 
 /// `read BYTES`, `step BYTES` or `complaint BYTES`.
-pub fn script_call(
-    answer: &mut Answer,
-    alloc: Global,
-    call: &str,
-    words: &Words<'_>,
-) -> Option<()> {
+fn script_call(answer: &mut Answer, alloc: Global, call: &str, words: &Words<'_>) -> Option<()> {
     if !["read", "step", "complaint"].contains(&call) {
         return answer.tell("no such call");
     }
@@ -367,21 +393,32 @@ pub fn script_call(
 /// How a run of a script ended.
 type Ended = Result<(), RunFault>;
 
-/// The script with the bytes of the second word behind its line of this number, from 1.
-fn disturbed(alloc: Global, script: &[u8], words: &Words<'_>) -> Option<Vec<u8>> {
-    let (number, behind) = (words.number(0), bytes_of(alloc, words.at(1)).ok()?);
-    let mut whole = Vec::new(alloc);
+/// Puts the script, with these bytes behind its line of this number, from 1.
+fn push_disturbed(
+    whole: &mut Vec<u8>,
+    script: &[u8],
+    number: u64,
+    behind: &[u8],
+) -> Result<(), AllocError> {
     let mut ended = 0u64;
     for byte in script {
-        whole.push(*byte).ok()?;
+        whole.push(*byte)?;
         if *byte != b'\n' {
             continue;
         }
         ended = ended.saturating_add(1);
         if ended == number {
-            whole.extend_from_slice(&behind).ok()?;
+            whole.extend_from_slice(behind)?;
         }
     }
+    Ok(())
+}
+
+/// The script with the bytes of the second word behind its line of the first one's number.
+fn disturbed(alloc: Global, script: &[u8], words: &Words<'_>) -> Option<Vec<u8>> {
+    let behind = bytes_of(alloc, words.at(1)).ok()?;
+    let mut whole = Vec::new(alloc);
+    push_disturbed(&mut whole, script, words.number(0), &behind).ok()?;
     Some(whole)
 }
 
@@ -473,7 +510,7 @@ const PLAYS: [&str; 7] = [
 ];
 
 /// `whole`, `plainly`, `listed TAKES|FAILING`, `disturbed LINE|STEPS`, `complaint`, `reading GIVES|FAILING` or `writing TAKES|FAILING`.
-pub fn play_call(
+fn play_call(
     answer: &mut Answer,
     output: &mut Output,
     alloc: Global,
@@ -515,7 +552,7 @@ fn audit(answer: &mut Answer, alloc: Global, log: &[u8], words: &Words<'_>) -> O
 
 /// `run` audits the input, and `written` what was written last. Behind these how many bytes a read gives, which read fails, how many bytes the
 /// sink takes a write, and which of its writes fails.
-pub fn audit_call(
+fn audit_call(
     answer: &mut Answer,
     output: &Output,
     alloc: Global,
@@ -554,7 +591,7 @@ fn match_told(answer: &mut Answer, ended: Result<(), MatchFault>) -> Option<()> 
 
 /// `PATTERN|SUBJECT`: whether the one matches the other, and the line that is written of it. Behind these how many bytes the sink takes a
 /// write, and which of its writes fails.
-pub fn match_call(answer: &mut Answer, alloc: Global, words: &Words<'_>) -> Option<()> {
+fn match_call(answer: &mut Answer, alloc: Global, words: &Words<'_>) -> Option<()> {
     let mut sink = sink_of(alloc, words.number(2) as usize, words.number(3));
     match_told(answer, matched(alloc, words, &mut sink)?)?;
     tell_written(answer, sink.bytes())
@@ -581,6 +618,16 @@ fn serve<R: Race>(alloc: Global, pieces: Pieces, sink: &mut MemSink) -> &'static
     end_word(pipe_run::<R, _, _>(alloc, &mut source, sink))
 }
 
+/// Serves the client whose reads give the words by this race.
+fn serve_words<R: Race>(
+    alloc: Global,
+    words: &Words<'_>,
+    sink: &mut MemSink,
+) -> Option<&'static str> {
+    let pieces = Pieces::of_words(alloc, words).ok()?;
+    Some(serve::<R>(alloc, pieces, sink))
+}
+
 /// Tells how it ended, and whether INFO was written first. Gives what was written behind it.
 fn ended_told<'w>(answer: &mut Answer, ended: &str, written: &'w [u8]) -> Option<&'w [u8]> {
     answer.tell(ended);
@@ -591,10 +638,10 @@ fn ended_told<'w>(answer: &mut Answer, ended: &str, written: &'w [u8]) -> Option
     Some(behind.unwrap_or(written))
 }
 
-/// Serves the client whose reads give the words by this race.
+/// Serves that client, and tells how it ended and what was written.
 fn run<R: Race>(answer: &mut Answer, alloc: Global, words: &Words<'_>) -> Option<()> {
     let mut sink = sink_in(alloc, words);
-    let ended = serve::<R>(alloc, Pieces::of_words(alloc, words).ok()?, &mut sink);
+    let ended = serve_words::<R>(alloc, words, &mut sink)?;
     let behind = ended_told(answer, ended, sink.bytes())?;
     tell_written(answer, behind)
 }
@@ -603,9 +650,9 @@ fn run<R: Race>(answer: &mut Answer, alloc: Global, words: &Words<'_>) -> Option
 /// what was written is a beginning of what is written where no write fails, and how many bytes that are.
 fn beginning(answer: &mut Answer, alloc: Global, words: &Words<'_>) -> Option<()> {
     let mut whole = MemSink::new(alloc);
-    let _ended = serve::<PlainRace>(alloc, Pieces::of_words(alloc, words).ok()?, &mut whole);
+    let _ended = serve_words::<PlainRace>(alloc, words, &mut whole)?;
     let mut sink = sink_in(alloc, words);
-    let ended = serve::<PlainRace>(alloc, Pieces::of_words(alloc, words).ok()?, &mut sink);
+    let ended = serve_words::<PlainRace>(alloc, words, &mut sink)?;
     answer.tell(ended);
     tell_beginning(answer, whole.bytes(), sink.bytes())
 }
@@ -633,7 +680,7 @@ fn first(answer: &mut Answer, alloc: Global) -> Option<()> {
 
 /// `run PIECES`, of which each is what a read gives, `!read fails`, or `!write fails behind BYTES`; `on_cells PIECES`, the same by the race on
 /// claim cells; `beginning PIECES`; `serve`; or `first`.
-pub fn pipe_call(
+fn pipe_call(
     answer: &mut Answer,
     output: &mut Output,
     alloc: Global,
@@ -648,5 +695,49 @@ pub fn pipe_call(
         "serve" => serve_input(answer, output, alloc, input),
         "first" => first(answer, alloc),
         _ => answer.tell("no such call"),
+    }
+}
+
+/// What a case puts together, and what was written last.
+#[derive(Drop)]
+pub struct Runs {
+    input: Vec<u8>,
+    output: Output,
+}
+
+impl Runs {
+    /// Nothing was put, and nothing written.
+    pub fn new(alloc: Global) -> Runs {
+        Runs {
+            input: Vec::new(alloc),
+            output: Output::new(alloc),
+        }
+    }
+
+    /// Nothing was put, and nothing written: the next case begins.
+    pub fn clear(&mut self) {
+        self.input.clear();
+        self.output.clear();
+    }
+
+    /// Makes a call of what is put and written, or of what is run.
+    pub fn call(
+        &mut self,
+        answer: &mut Answer,
+        alloc: Global,
+        of: &str,
+        call: &str,
+        words: &Words<'_>,
+    ) -> Option<()> {
+        match of {
+            "input" => input_call(answer, &mut self.input, alloc, call, words),
+            "output" => output_call(answer, &mut self.output, alloc, call, words),
+            "script" => script_call(answer, alloc, call, words),
+            "play" => play_call(answer, &mut self.output, alloc, &self.input, call, words),
+            "audit" => audit_call(answer, &self.output, alloc, &self.input, call, words),
+            "pipe" => pipe_call(answer, &mut self.output, alloc, &self.input, call, words),
+            "match" => match_call(answer, alloc, words),
+            _ => answer.tell("no such call"),
+        }
     }
 }

@@ -76,7 +76,7 @@ fn put_told(answer: &mut Answer, seen: Option<Seen>) -> Option<()> {
         seen.entries as u64,
         ", frames ",
         seen.frames as u64,
-    )?;
+    );
     tell_two(
         answer,
         ", shut ",
@@ -105,7 +105,7 @@ fn collected_told(answer: &mut Answer, changes: usize, frames: usize, cut: usize
         changes as u64,
         ", frames ",
         frames as u64,
-    )?;
+    );
     answer.tell_number(", cut ", cut as u64)
 }
 
@@ -165,14 +165,6 @@ fn refusal_told(answer: &mut Answer, why: Refused) -> Option<()> {
     }
 }
 
-/// Tells what came of a step that was made without copies.
-fn came_told(answer: &mut Answer, came: &Result<Came, Refused>) -> Option<()> {
-    match came {
-        Ok(came) => answer_told(answer, came),
-        Err(why) => refusal_told(answer, *why),
-    }
-}
-
 /// Tells what came of a step.
 fn outcome_told(answer: &mut Answer, did: &Result<Did, Refused>) -> Option<()> {
     match did {
@@ -223,8 +215,6 @@ fn entries_told(answer: &mut Answer, alloc: Global, entries: &[Entry]) -> Option
 enum Ask<'a> {
     /// To make the step of an event.
     Step(&'a NodeEvent),
-    /// To make it without copies.
-    Apply(&'a NodeEvent),
     /// To make the steps of a list.
     Run(&'a [NodeEvent]),
     /// What the last step put and closed.
@@ -279,20 +269,6 @@ impl<R: Race> Machine<R> {
         is_told
     }
 
-    /// The same without copies.
-    fn applied(&mut self, event: &NodeEvent) -> Result<Came, Refused> {
-        self.node.apply(event)
-    }
-
-    /// Makes the step without copies.
-    fn apply(&mut self, answer: &mut Answer, event: &NodeEvent) -> Option<()> {
-        self.seen = None;
-        let came = self.applied(event);
-        let is_told = came_told(answer, &came);
-        drop(came);
-        is_told
-    }
-
     /// What comes of the steps of a list.
     fn outcomes(&mut self, events: &[NodeEvent]) -> Result<Vec<Result<Did, Refused>>, AllocError> {
         self.node.run(events)
@@ -323,7 +299,6 @@ impl<R: Race> Machine<R> {
     fn told(&mut self, answer: &mut Answer, ask: Ask<'_>) -> Option<()> {
         match ask {
             Ask::Step(event) => self.step(answer, event),
-            Ask::Apply(event) => self.apply(answer, event),
             Ask::Run(events) => self.run(answer, events),
             Ask::Put => put_told(answer, self.seen),
             Ask::Names => names_told(answer, self.seen),
@@ -345,10 +320,8 @@ impl<R: Race> Machine<R> {
 /// How events are made.
 #[derive(Clone, Copy)]
 enum Manner {
-    /// With copies of what they put. It is asked as well whether they are refused.
+    /// One by one. It is asked as well whether they are refused.
     Step,
-    /// For their answers alone.
-    Apply,
     /// All at once, when the list is run.
     List,
 }
@@ -416,7 +389,6 @@ impl Stand {
     fn make(&mut self, answer: &mut Answer, event: NodeEvent) -> Option<()> {
         let ask = match self.manner {
             Manner::Step => Ask::Step(&event),
-            Manner::Apply => Ask::Apply(&event),
             Manner::List => return self.keep(answer, event),
         };
         let is_told = self.ask(answer, ask);
@@ -436,7 +408,6 @@ impl Stand {
     fn turn_to(&mut self, answer: &mut Answer, manner: &str) -> Option<()> {
         self.manner = match manner {
             "step" => Manner::Step,
-            "apply" => Manner::Apply,
             "list" => Manner::List,
             _ => return answer.tell("no such manner"),
         };
@@ -490,7 +461,12 @@ impl Servers {
 
     /// Where the server at this place stands, if it has started.
     fn index_of(&self, place: usize) -> Option<usize> {
-        self.started.iter().position(|stand| stand.place == place)
+        for (index, stand) in self.started.iter().enumerate() {
+            if stand.place == place {
+                return Some(index);
+            }
+        }
+        None
     }
 
     /// Starts the server at this place, once in a case.
@@ -582,7 +558,7 @@ fn down_told(answer: &mut Answer, outcomes: &[Outcome]) -> Option<()> {
     for outcome in outcomes {
         count = count.saturating_add(u64::from(is_down(outcome)));
     }
-    tell_two(answer, "", count, " of ", outcomes.len() as u64)?;
+    tell_two(answer, "", count, " of ", outcomes.len() as u64);
     answer.tell(" refused 80")
 }
 
@@ -632,6 +608,23 @@ fn publish(
     is_told
 }
 
+/// Makes the events in one list, or behind a publish of this payload at the last server.
+fn act_in(
+    answer: &mut Answer,
+    cluster: &mut Cluster,
+    alloc: Global,
+    call: &str,
+    last: usize,
+    events: &[Event],
+    payload: &str,
+) -> Option<()> {
+    match call {
+        "run" => run(answer, cluster, events),
+        "settled_publish" => publish(answer, cluster, alloc, last, events, payload),
+        _ => answer.tell("no such call"),
+    }
+}
+
 /// Makes a call on a cluster.
 fn made_in(
     answer: &mut Answer,
@@ -642,11 +635,7 @@ fn made_in(
 ) -> Option<()> {
     let last = cluster.names().len().saturating_sub(1);
     let events = stops(alloc, last, words.number(2)).ok()?;
-    match call {
-        "run" => run(answer, cluster, &events),
-        "settled_publish" => publish(answer, cluster, alloc, last, &events, words.at(3)),
-        _ => answer.tell("no such call"),
-    }
+    act_in(answer, cluster, alloc, call, last, &events, words.at(3))
 }
 
 /// `run NAMES|SHARDS|COUNT` makes so many stops of the last of these servers in one list: the servers are down. `settled_publish

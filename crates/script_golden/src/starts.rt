@@ -19,16 +19,22 @@ fn push_word(all: &mut Vec<String>, alloc: Global, word: &str) -> Result<(), All
     Ok(())
 }
 
+/// Puts the program's name, and the words of this text, which has none where it is empty.
+fn push_line(all: &mut Vec<String>, alloc: Global, words: &str) -> Result<(), AllocError> {
+    push_word(all, alloc, "nats_mesh")?;
+    if words.is_empty() {
+        return Ok(());
+    }
+    for word in words.split('|') {
+        push_word(all, alloc, word)?;
+    }
+    Ok(())
+}
+
 /// The program's name, and the words of this text, which has none where it is empty.
 fn line_of(alloc: Global, words: &str) -> Result<Vec<String>, AllocError> {
     let mut all = Vec::new(alloc);
-    push_word(&mut all, alloc, "nats_mesh")?;
-    if words.is_empty() {
-        return Ok(all);
-    }
-    for word in words.split('|') {
-        push_word(&mut all, alloc, word)?;
-    }
+    push_line(&mut all, alloc, words)?;
     Ok(all)
 }
 
@@ -59,8 +65,8 @@ fn drain_told(answer: &mut Answer, seconds: u64, control: Option<&str>) -> Optio
 fn mesh_told(answer: &mut Answer, given: &Given<'_>) -> Option<()> {
     let numbers = [given.nodes, given.port, given.shards, given.inc, given.word];
     answer.tell("serve ");
-    numbers_told(answer, &numbers, given.stop_after)?;
-    loops_told(answer, given.loops)?;
+    numbers_told(answer, &numbers, given.stop_after);
+    loops_told(answer, given.loops);
     answer.tell(given.log_level);
     drain_told(answer, given.drain_seconds, given.control)
 }
@@ -75,19 +81,27 @@ fn tell_quoted(answer: &mut Answer, word: &str, text: &str) -> Option<()> {
 
 /// Tells two texts so.
 fn tell_both(answer: &mut Answer, word: &str, first: &str, second: &str) -> Option<()> {
-    tell_quoted(answer, word, first)?;
+    tell_quoted(answer, word, first);
     tell_quoted(answer, "", second)
 }
 
 /// Tells what is asked of one server of a mesh.
 fn node_told(answer: &mut Answer, given: &NodeGiven<'_>) -> Option<()> {
-    tell_both(answer, "node", given.name, given.mesh)?;
-    tell_quoted(answer, "", given.state)?;
+    tell_both(answer, "node", given.name, given.mesh);
+    tell_quoted(answer, "", given.state);
     answer.tell(" ");
-    numbers_told(answer, &[], given.least_inc)?;
-    loops_told(answer, given.loops)?;
+    numbers_told(answer, &[], given.least_inc);
+    loops_told(answer, given.loops);
     answer.tell(given.log_level);
     drain_told(answer, given.drain_seconds, given.control)
+}
+
+/// Tells that a server, or all of a mesh, is asked to drain.
+fn drain_asked(answer: &mut Answer, path: &str, server: Option<&str>) -> Option<()> {
+    match server {
+        None => tell_quoted(answer, "drain", path),
+        Some(server) => tell_both(answer, "drain", path, server),
+    }
 }
 
 /// Tells what the words ask for.
@@ -99,11 +113,7 @@ fn command_told(answer: &mut Answer, command: &Command<'_>) -> Option<()> {
         Command::Script { audit: true } => answer.tell("script with its lists"),
         Command::Audit => answer.tell("audit"),
         Command::Serve(given) => mesh_told(answer, given),
-        Command::Drain { path, server: None } => tell_quoted(answer, "drain", path),
-        Command::Drain {
-            path,
-            server: Some(server),
-        } => tell_both(answer, "drain", path, server),
+        Command::Drain { path, server } => drain_asked(answer, path, *server),
         Command::Node(given) => node_told(answer, given),
         Command::Check { path } => tell_quoted(answer, "check", path),
     }
@@ -184,15 +194,20 @@ fn pipe_end(word: &str) -> Option<Result<PipeEnd, PipeFault>> {
     }
 }
 
-/// Tells the exit status of a pipe, and what is told of it.
-fn pipe_told(answer: &mut Answer, word: &str) -> Option<()> {
-    let Some(ended) = pipe_end(word) else {
-        return answer.tell("no such end");
-    };
+/// Tells the exit status of a pipe that ended so, and what is told of it.
+fn pipe_end_told(answer: &mut Answer, ended: Result<PipeEnd, PipeFault>) -> Option<()> {
     answer.tell_number("status ", u64::from(pipe_status(ended)));
     match pipe_complaint(ended) {
         None => Some(()),
         Some(complaint) => answer.tell_value(", ", &complaint),
+    }
+}
+
+/// Tells the exit status of a pipe, and what is told of it.
+fn pipe_told(answer: &mut Answer, word: &str) -> Option<()> {
+    match pipe_end(word) {
+        Some(ended) => pipe_end_told(answer, ended),
+        None => answer.tell("no such end"),
     }
 }
 
@@ -238,8 +253,8 @@ fn options_told(answer: &mut Answer, options: &Options<'_>) -> Option<()> {
         options.inc.get(),
         options.word,
     ];
-    numbers_told(answer, &numbers, options.stop_after)?;
-    loops_told(answer, options.loops)?;
+    numbers_told(answer, &numbers, options.stop_after);
+    loops_told(answer, options.loops);
     answer.tell_value("", &options.log_level);
     drain_told(answer, options.drain_seconds, options.control)
 }
@@ -275,8 +290,8 @@ fn node_options_told(answer: &mut Answer, options: &NodeOptions<'_>) -> Option<(
     answer.tell(" ");
     answer.tell(options.state);
     answer.tell(" ");
-    numbers_told(answer, &[], options.least_inc.map(Incarnation::get))?;
-    loops_told(answer, options.loops)?;
+    numbers_told(answer, &[], options.least_inc.map(Incarnation::get));
+    loops_told(answer, options.loops);
     answer.tell_value("", &options.log_level);
     drain_told(answer, options.drain_seconds, options.control)
 }
@@ -304,7 +319,7 @@ fn ports(answer: &mut Answer, words: &Words<'_>) -> Option<()> {
 
 /// `asks WORDS`, `refuses PART|WORDS` (what is told has the part), `tells WORDS` (all that is told), `pipe END`, `end done` or `end failed`, with
 /// what a mesh is asked for `options GIVEN` and `ports GIVEN|PLACE`, and with what one server is asked for `node_options GIVEN`.
-pub fn line_call(answer: &mut Answer, alloc: Global, call: &str, words: &Words<'_>) -> Option<()> {
+fn line_call(answer: &mut Answer, alloc: Global, call: &str, words: &Words<'_>) -> Option<()> {
     match call {
         "asks" => line_told(answer, alloc, words.text, Some(""), ""),
         "refuses" => refuses(answer, alloc, words.text),
@@ -331,7 +346,7 @@ fn mesh_of(alloc: Global, file: &str) -> Result<String, AllocError> {
 }
 
 /// Tells what is told of the file of a mesh that the words are.
-pub fn mesh_call(answer: &mut Answer, alloc: Global, words: &Words<'_>) -> Option<()> {
+fn mesh_call(answer: &mut Answer, alloc: Global, words: &Words<'_>) -> Option<()> {
     let bytes = bytes_of(alloc, words.text).ok()?;
     let Ok(file) = str::from_utf8(&bytes) else {
         return answer.tell("no text");
@@ -462,8 +477,26 @@ fn lives(
     Some(())
 }
 
+/// Makes a call of the disk alone: it is empty, or has a file, a step fails, or a life ends.
+fn lone_disk_call(
+    answer: &mut Answer,
+    disk: &mut MemoryDisk,
+    alloc: Global,
+    call: &str,
+    words: &Words<'_>,
+) -> Option<()> {
+    match call {
+        "none" => put(disk, MemoryDisk::new(alloc, None)),
+        "file" => return put_file(disk, alloc, words.text),
+        "fails" => fail(disk, words.number(0), words.at(1) == "before"),
+        "ends" => end(disk, end_of(words.at(0)), words.number(1) as usize),
+        _ => return answer.tell("no such call"),
+    }
+    Some(())
+}
+
 /// `none`, `file BYTES`, `fails STEPS|HOW`, `ends HOW|RENAMES`, `starts LEAST`, `rises CASE` or `lives` with five lives, of the server `n1`.
-pub fn disk_call(
+fn disk_call(
     answer: &mut Answer,
     disk: &mut MemoryDisk,
     alloc: Global,
@@ -472,14 +505,25 @@ pub fn disk_call(
 ) -> Option<()> {
     let server = NodeId::read(b"n1").ok()?;
     match call {
-        "none" => put(disk, MemoryDisk::new(alloc, None)),
-        "file" => put_file(disk, alloc, words.text)?,
-        "fails" => fail(disk, words.number(0), words.at(1) == "before"),
-        "ends" => end(disk, end_of(words.at(0)), words.number(1) as usize),
-        "starts" => started(answer, disk, alloc, server, words.number(0))?,
-        "rises" => rises(answer, alloc, server, words.number(0))?,
-        "lives" => lives(answer, disk, alloc, server, words)?,
-        _ => answer.tell("no such call")?,
+        "starts" => started(answer, disk, alloc, server, words.number(0)),
+        "rises" => rises(answer, alloc, server, words.number(0)),
+        "lives" => lives(answer, disk, alloc, server, words),
+        _ => lone_disk_call(answer, disk, alloc, call, words),
     }
-    Some(())
+}
+
+/// Makes a call of a command line, of the file of a mesh, or of the disk.
+pub fn start_call(
+    answer: &mut Answer,
+    disk: &mut MemoryDisk,
+    alloc: Global,
+    of: &str,
+    call: &str,
+    words: &Words<'_>,
+) -> Option<()> {
+    match of {
+        "line" => line_call(answer, alloc, call, words),
+        "mesh" => mesh_call(answer, alloc, words),
+        _ => disk_call(answer, disk, alloc, call, words),
+    }
 }

@@ -171,17 +171,24 @@ pub fn sub_ids(alloc: Global, shard: u64, serials: &[u64]) -> Result<Vec<SubId>,
     Ok(names)
 }
 
+/// The last line of a connection without room.
+fn last_line(alloc: Global, conn: ConnId) -> Result<Placed, AllocError>
+    ensures { IfOk result (λ placed. placed ≡ put_line slow_consumer conn) }
+{
+    let line = Vec::from_slice(alloc, ErrText::SlowConsumer.line())?;
+    Ok(Placed {
+        conn,
+        entry: Entry::reply(line),
+        headers: false,
+    })
+}
+
 /// Puts the last lines of connections without room behind what is there.
 fn add_lines(alloc: Global, shut: &[ConnId], put: &mut Vec<Placed>) -> Result<(), AllocError>
     ensures { OnOk result (put.new.items ≡ put.old.items ++ map (put_line slow_consumer) shut.now) }
 {
     for conn in shut {
-        let line = Vec::from_slice(alloc, ErrText::SlowConsumer.line())?;
-        put.push(Placed {
-            conn: *conn,
-            entry: Entry::reply(line),
-            headers: false,
-        })?;
+        put.push(last_line(alloc, *conn)?)?;
     }
     Ok(())
 }
@@ -198,7 +205,6 @@ pub fn is_last(sub: &Subscription) -> bool
 }
 
 /// What a walk did so far.
-#[derive(Drop)]
 pub struct DeliveryBuffer {
     alloc: Global,
     shard: u64,
@@ -213,6 +219,22 @@ pub struct DeliveryBuffer {
     ended: Vec<u64>,
     /// The memory of the line that is put.
     line: Vec<u8>,
+}
+
+/// One call for whoever lets it go: `docs/PROVING.md`, "What a proof costs".
+impl Drop for DeliveryBuffer {
+    fn drop(self) {
+        let DeliveryBuffer {
+            alloc: _,
+            shard: _,
+            copies: _,
+            put: _,
+            given: _,
+            shut: _,
+            ended: _,
+            line: _,
+        } = self;
+    }
 }
 
 impl Model for DeliveryBuffer {

@@ -39,13 +39,24 @@ fn reserve_for(deltas: &mut Vec<Delta>, closings: usize) -> Result<(), AllocErro
 /// Seen as the list of the subscriptions in order of opening, which is that of their serials, and the list
 /// of the deltas. An opening takes the memory of its own delta and of the closing one, so that a closing
 /// takes none.
-#[derive(Drop)]
 pub struct Openings<T: SubTable> {
     alloc: Global,
     table: T,
     deltas: Vec<Delta>,
     /// What is noted of a subject.
     notes: Notes,
+}
+
+/// One call for whoever lets it go: `docs/PROVING.md`, "What a proof costs".
+impl<T: SubTable> Drop for Openings<T> {
+    fn drop(self) {
+        let Openings {
+            alloc: _,
+            table: _,
+            deltas: _,
+            notes: _,
+        } = self;
+    }
 }
 
 impl<T: SubTable> Model for Openings<T> {

@@ -83,7 +83,6 @@ pub fn jobs_together(finished: Turn, first: &LentJob<'_>, jobs: &JobSlice<'_>) -
 }
 
 /// The memory of a run, used again by the next.
-#[derive(Drop)]
 pub struct RunBuffer {
     /// One message, while its bytes are spelt.
     message: MessageTails,
@@ -91,6 +90,17 @@ pub struct RunBuffer {
     tails: RunTails,
     /// The serials of those that get the run.
     given: Vec<u64>,
+}
+
+/// One call for whoever lets it go: `docs/PROVING.md`, "What a proof costs".
+impl Drop for RunBuffer {
+    fn drop(self) {
+        let RunBuffer {
+            message: _,
+            tails: _,
+            given: _,
+        } = self;
+    }
 }
 
 impl RunBuffer {

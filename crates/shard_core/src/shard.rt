@@ -66,6 +66,23 @@ fn serials_of<T: SubTable>(
     Ok(serials)
 }
 
+/// The subscriptions of a connection, in order: their serials, and their names.
+fn subs_of<T: SubTable>(
+    alloc: Global,
+    shard: u64,
+    openings: &Openings<T>,
+    conn: ConnId,
+) -> Result<(Vec<u64>, Vec<SubId>), AllocError>
+    ensures serials { IfOk result (λ subs. subs.0.items ≡ left_of conn [] openings.now.subs) }
+    ensures apart { IfOk result (λ subs. AreApart subs.0.items) }
+    ensures names { IfOk result (λ subs.
+        subs.1.items ≡ ended_ids shard (left_of conn [] openings.now.subs)) }
+{
+    let serials = serials_of(alloc, openings, conn)?;
+    let names = sub_ids(alloc, shard, &serials)?;
+    Ok((serials, names))
+}
+
 /// Puts an answer where the connection has room for it, and notes for whom it is. Tells whether it has. Want of memory leaves
 /// all as it was.
 fn put_answer(
@@ -114,8 +131,7 @@ fn shut_with<T: SubTable>(
     ensures err { OnErr result ((conns.new ≡ conns.old) × (openings.new ≡ openings.old)) }
     ensures told { AreTold conns.old.shown conns.new.shown dirty_conns.old dirty_conns.new }
 {
-    let serials = serials_of(alloc, openings, conn)?;
-    let ended = sub_ids(alloc, shard, &serials)?;
+    let (serials, ended) = subs_of(alloc, shard, openings, conn)?;
     let _put = conns.shut(dirty_conns, conn, line);
     openings.close_all(&serials);
     Ok(ended)
@@ -512,8 +528,7 @@ impl<T: SubTable> Shard<T> {
         if !self.conns.is_known(conn) {
             return Err(Failure::Refused(ShardFault::NoConn));
         }
-        let serials = serials_of(self.alloc, &self.openings, conn)?;
-        let ended = sub_ids(self.alloc, self.shard, &serials)?;
+        let (serials, ended) = subs_of(self.alloc, self.shard, &self.openings, conn)?;
         self.conns.detach(conn);
         self.openings.close_all(&serials);
         Ok(ended)

@@ -97,3 +97,14 @@ list_gains keep on lock e failed answer list (Ok x) told old seen new is same sa
 list_gains keep on lock e failed answer list (Err failure) told old seen new is same says gains =
     gains_from keep on lock e (failed failure) old seen new is same
     (subst (λ t. Gains keep lock e t seen new) says gains)
+
+-- a pass that was left as it was before it gained a call that gives a list
+pub list_gains_from : {A X F : Type 0} (keep on : Bool) (lock : ℕ) (e : NodeEvent) (failed : F → Option CallAnswer)
+    (answer : X → A → CallAnswer) (result : Result X F) (old seen new : List Call)
+    → keep ≡ on
+    → seen ≡ old
+    → GainsList A keep lock e failed answer result seen new
+    → GainsList A on lock e failed answer result old new
+list_gains_from {A} keep on lock e failed answer result old seen new is same gains =
+    subst (λ k. GainsList A k lock e failed answer result old new) is
+    (subst (λ calls. GainsList A keep lock e failed answer result calls new) same gains)

@@ -1,10 +1,15 @@
 //! What each caller asked, and what it was answered: what a pass keeps of each call. The calls themselves are
 //! `hub_calls` and `shard_calls`, and `answers` parts an answer into what the pass keeps and what the caller is told.
 
-ghost use Rattle.std.specs.Prelude.{◌≡◌, ◌<◌, ◌-◌, ℕ, [], true, Some, None, cond, length, slice_get, IfErr, IfOk, OnOk};
+ghost use Rattle.std.specs.Prelude.{◌≡◌, ◌<◌, ◌-◌, ℕ, List, [], true, Some, None, cond, length, slice_get, IfErr, IfOk, OnOk};
 ghost use Rattle.std.specs.Option.{option_copied, option_map};
 ghost use Rattle.node_law.specs.declared.events.NodeEvent.{NodeEvent};
-ghost use Rattle.thread_report.specs.Owed.{Gains, IsInOrder, by_server, by_shard, failed_by, hub_lists_kept, lists_kept, plain, plain_of_hub};
+ghost use Rattle.outbox.specs.Views.{Written};
+ghost use Rattle.subj.specs.declared.identities.SubId.{SubId as ClosedSub};
+ghost use Rattle.thread_report.specs.ShardAnswers.{closed_lists, taken_lists};
+ghost use Rattle.thread_report.specs.declared.passes.CallAnswer.TheVariants.{Shard};
+ghost use Rattle.node_threads.specs.declared.shard_entries.ShardTold.TheVariants as shard_told;
+ghost use Rattle.thread_report.specs.Owed.{Gains, GainsList, IsInOrder, by_server, by_shard, failed_by, hub_lists_kept, lists_kept, plain, plain_of_hub};
 ghost use Rattle.thread_report.specs.declared.passes.Call.{Call};
 ghost use Rattle.thread_report.specs.declared.passes.CallAnswer.{CallAnswer};
 ghost use Rattle.node_threads.specs.declared.shard_entries.ShardTold.{ShardTold};
@@ -15,18 +20,19 @@ mod answers;
 mod hub_calls;
 mod shard_calls;
 
-use self::answers::{of_hub, of_shard};
+use self::answers::{of_hub, of_shard, part_list};
 use crate::hub_lists::HubLists;
 use crate::order::are_rising;
 use crate::shard_lists::ShardLists;
 use node_law::{NodeEvent, NodeFault};
 use node_threads::{NodeName, ShardTold};
+use outbox::Entry;
 use shard_core::ShardFault;
 use std::alloc::{AllocError, Global};
 use std::marker::{Model, PhantomData};
 use std::sync::Wait;
 use sub_table::SubTable;
-use subj::{ConnId, Failure};
+use subj::{ConnId, Failure, SubId};
 use thread_node::{HubSection, HubTold, NO_SHARD, ShardSection, ThreadNode, answered_by_shard};
 
 /// What a call answered, one of the hub's or one of a shard's, with its lists.
@@ -243,6 +249,54 @@ impl<N: NodeName> Pass<N> {
     {
         self.tell(keep, shard, place, event, told);
         answered_by_shard(done)
+    }
+
+    /// The same of a call that closes subscriptions.
+    fn tell_closed(
+        &mut self,
+        keep: bool,
+        shard: u64,
+        place: usize,
+        event: Option<NodeEvent>,
+        told: Option<ShardTold>,
+        done: Result<Vec<SubId>, Failure<ShardFault>>,
+    ) -> Result<(), Failure<NodeFault>>
+        requires room { keep ≡ true → 0 < self.old.room }
+        ensures told { (e : NodeEvent) (answer : ℕ → ShardTold)
+            → event ≡ cond keep (Some e) None
+            → told ≡ told_of_shard (λ ended. answer (length ended.items)) done
+            → GainsList (List ClosedSub) keep shard e failed_by
+            (λ _ ended. Shard (answer (length ended)) (closed_lists ended)) result self.old.calls
+            self.new.calls }
+        ensures answers { AnswersAt true result }
+    {
+        let (ended, done) = part_list(self.alloc, done);
+        let lists = ShardLists::of_closed(self.alloc, ended);
+        self.tell_lists(keep, shard, place, event, of_shard(told, lists), done)
+    }
+
+    /// The same of a call that takes entries.
+    fn tell_taken(
+        &mut self,
+        keep: bool,
+        shard: u64,
+        place: usize,
+        event: Option<NodeEvent>,
+        told: Option<ShardTold>,
+        done: Result<Vec<Entry>, Failure<ShardFault>>,
+    ) -> Result<(), Failure<NodeFault>>
+        requires room { keep ≡ true → 0 < self.old.room }
+        ensures told { (e : NodeEvent)
+            → event ≡ cond keep (Some e) None
+            → told ≡ told_of_shard (λ entries. shard_told.Taken (length entries.items)) done
+            → GainsList (List Written) keep shard e failed_by
+            (λ _ entries. Shard (shard_told.Taken (length entries)) (taken_lists entries)) result
+            self.old.calls self.new.calls }
+        ensures answers { AnswersAt true result }
+    {
+        let (entries, done) = part_list(self.alloc, done);
+        let lists = ShardLists::of_taken(self.alloc, entries);
+        self.tell_lists(keep, shard, place, event, of_shard(told, lists), done)
     }
 
     /// The same of a call that takes no memory.

@@ -1,6 +1,6 @@
 //! The end of a server on threads.
 
-ghost use Rattle.std.specs.Prelude.{◌≡◌, true, List, Option, All, length, map, vec_len, IfOk, OnOk};
+ghost use Rattle.std.specs.Prelude.{◌≡◌, ◌++◌, ◌∷◌, [], true, List, Option, All, length, map, vec_len, IfOk, OnOk};
 ghost use Rattle.std.specs.Arc.{arc_value};
 ghost use Rattle.subj.specs.declared.jobs.Job.{Job};
 ghost use Rattle.claim_cells.specs.Calls.{AllOf, HasEach, IsClosed};
@@ -24,7 +24,7 @@ use crate::passes_told::are_told;
 use claim_cells::{Cells, Closed, HubSeat, ShardSeat};
 use job_lane::meet;
 use node_threads::{HubState, LaneSender, NodeName, ShardEntry, Tape};
-use std::alloc::Global;
+use std::alloc::{AllocError, Global};
 use std::sync::{Arc, Mutex, Wait};
 use sub_table::SubTable;
 use subj::{Finished, ServerIdentity, Turn};
@@ -89,35 +89,61 @@ fn close_shard<T: SubTable, N: NodeName, R: Wait>(
     Ok((seat, entries))
 }
 
-/// The seats of all shards, and what stands on their tapes, in their order.
+/// The seats of the shards that are closed, and what stands on their tapes, in their order.
+#[derive(Drop)]
+struct ClosedShards {
+    seats: Vec<ShardSeat>,
+    tapes: Vec<Vec<ShardEntry>>,
+}
+
+impl ClosedShards {
+    /// Of no shard.
+    fn new(alloc: Global) -> ClosedShards
+        ensures seats { result.seats.items ≡ [] }
+        ensures tapes { result.tapes.items ≡ [] }
+    {
+        ClosedShards {
+            seats: Vec::new(alloc),
+            tapes: Vec::new(alloc),
+        }
+    }
+
+    /// Adds a shard behind the others.
+    fn add(&mut self, seat: ShardSeat, entries: Vec<ShardEntry>) -> Result<(), AllocError>
+        ensures seats { OnOk result (self.new.seats.items ≡ self.old.seats.items ++ seat ∷ []) }
+        ensures tapes { OnOk result (self.new.tapes.items ≡ self.old.tapes.items ++ entries ∷ []) }
+    {
+        self.seats.push(seat)?;
+        self.tapes.push(entries)?;
+        Ok(())
+    }
+}
+
+/// Closes all shards.
 fn close_shards<T: SubTable, N: NodeName, R: Wait>(
     rt: &R,
     alloc: Global,
     keep: bool,
     lines: Vec<LaneSender<N>>,
     shards: Vec<Mutex<LockedShard<T, N>>>,
-) -> Result<(Vec<ShardSeat>, Vec<Vec<ShardEntry>>), Unfinished>
+) -> Result<ClosedShards, Unfinished>
     ensures { IfOk result (λ made.
-        (length made.0.items ≡ vec_len shards)
+        (length made.seats.items ≡ vec_len shards)
         × ((issued : List Job) → All (λ line. AreFirst line.pushed issued) lines.items
-        → AreClosed N.race issued keep made.0.items
-        (map (λ entries. entries.items) made.1.items))) }
+        → AreClosed N.race issued keep made.seats.items
+        (map (λ entries. entries.items) made.tapes.items))) }
 {
     let count = shards.len();
-    let mut seats = Vec::new(alloc);
-    let mut tapes = Vec::new(alloc);
+    let mut closed = ClosedShards::new(alloc);
     for (line, shard) in lines.into_iter().zip(shards) {
-        let number = seats.len() as u64 + 1;
+        let number = closed.seats.len() as u64 + 1;
         let (seat, entries) = close_shard(rt, alloc, keep, number, line, shard.into_inner())?;
-        tapes.reserve(1)?;
-        seats.reserve(1)?;
-        tapes.push_reserved(entries);
-        seats.push_reserved(seat);
+        closed.add(seat, entries)?;
     }
-    if seats.len() != count {
-        return Err(Unfinished::Torn(seats.len() as u64 + 1));
+    if closed.seats.len() != count {
+        return Err(Unfinished::Torn(closed.seats.len() as u64 + 1));
     }
-    Ok((seats, tapes))
+    Ok(closed)
 }
 
 /// Ends the race, whose seats are all here.
@@ -170,9 +196,9 @@ fn close_all<T: SubTable, N: NodeName, R: Wait>(
         made.0.finished made.0.cells.items) }
 {
     let (seat, lines) = state.into_parts();
-    let (seats, worked) = close_shards(rt, alloc, keep, lines, shards)?;
+    let ClosedShards { seats, tapes } = close_shards(rt, alloc, keep, lines, shards)?;
     let closed = close_race(cells, seat, seats)?;
-    Ok((closed, worked))
+    Ok((closed, tapes))
 }
 
 /// The report of a server, with which no pass was compared yet.

@@ -60,25 +60,34 @@ fn tells(
     assert_eq!(rt; told.as_str(), wanted);
 }
 
+/// The folder of this name is no more.
+fn remove(rt: &(impl Files<File = File> + Alloc<A = Global>), folder: &str) {
+    let _ = fs::remove_dir_all(rt, folder);
+}
+
 /// A new folder of this name.
 fn make(rt: &(impl Abort + Files<File = File> + Alloc<A = Global>), folder: &str) {
-    let _ = fs::remove_dir_all(rt, folder);
+    remove(rt, folder);
     assert!(rt; fs::create_dir(rt, folder).is_ok());
+}
+
+/// The file of this name has this text.
+fn has_text(rt: &(impl Abort + Files<File = File> + Alloc<A = Global>), file: &str, wanted: &str) {
+    let text = fs::read_to_string(rt, file).ok().expect(rt, "the file");
+    assert_eq!(rt; text.as_str(), wanted);
 }
 
 #[test]
 fn numbers_stand_in_a_file(rt: HostRuntime) {
     let folder = "incarnation_numbers";
-    let _ = fs::remove_dir_all(&rt, folder);
+    remove(&rt, folder);
     tells(&rt, folder, 1, NO_FOLDER);
     make(&rt, folder);
     tells(&rt, folder, 0, MISSING);
     tells(&rt, folder, 6, "6");
     tells(&rt, folder, 0, "7");
-    let file = fs::read_to_string(&rt, "incarnation_numbers/incarnation").ok();
-    let file = file.expect(&rt, "the file");
-    assert_eq!(rt; file.as_str(), SEVEN);
-    let _ = fs::remove_dir_all(&rt, folder);
+    has_text(&rt, "incarnation_numbers/incarnation", SEVEN);
+    remove(&rt, folder);
 }
 
 #[test]
@@ -89,7 +98,7 @@ fn a_folder_has_one_server(rt: HostRuntime) {
     tells(&rt, folder, 0, LOCKED);
     drop(held);
     tells(&rt, folder, 1, "1");
-    let _ = fs::remove_dir_all(&rt, folder);
+    remove(&rt, folder);
 }
 
 #[test]
@@ -100,5 +109,5 @@ fn a_real_step_fails(rt: HostRuntime) {
     tells(&rt, folder, 1, NOT_WRITTEN);
     assert!(rt; fs::remove_dir(&rt, "incarnation_fault/incarnation.new").is_ok());
     tells(&rt, folder, 1, "1");
-    let _ = fs::remove_dir_all(&rt, folder);
+    remove(&rt, folder);
 }

@@ -174,15 +174,22 @@ fn pass_through<R: Abort + Threads + Wait + Sync>(
     meet(rt, writer, reader)
 }
 
+/// This run has the jobs behind this number: that of its last one.
+fn last_job_of(rt: &impl Abort, run: &Run, before: u64) -> u64 {
+    let mut number = before;
+    let jobs = run.jobs();
+    for place in 0..jobs.len() {
+        number = number.checked_add(1).expect(rt, "a number");
+        assert!(rt; is_job(rt, &jobs.get(place), number));
+    }
+    number
+}
+
 /// These runs have the jobs behind the first `before`, up to the one numbered `last`.
 fn assert_are_jobs(rt: &impl Abort, runs: &[Run], before: u64, last: u64) {
     let mut number = before;
     for run in runs {
-        let jobs = run.jobs();
-        for place in 0..jobs.len() {
-            number = number.checked_add(1).expect(rt, "a number");
-            assert!(rt; is_job(rt, &jobs.get(place), number));
-        }
+        number = last_job_of(rt, run, number);
     }
     assert_eq!(rt; number, last);
 }

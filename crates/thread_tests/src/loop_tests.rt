@@ -3,7 +3,7 @@
 
 ghost use Rattle.std.specs.Prelude.{◌≡◌};
 
-use crate::node_tests::{Node, report_of};
+use crate::node_tests::{Node, list_of};
 use mio::net::{TcpListener, TcpStream};
 use mio::{Poll, Waker};
 use node_net::{
@@ -25,6 +25,7 @@ use std::thread::join;
 use std::time::{Duration, Instant};
 use subj::{HostText, Incarnation, NodeId, ServerIdentity};
 use thread_node::{NodeName, Parts, ThreadNode};
+use thread_report::finish;
 
 /// Where the server's own routes come in, and where the other server is to be reached.
 const OWN: u16 = 17_460;
@@ -98,19 +99,40 @@ fn shutdown<R: Abort>(rt: &R, alloc: Global, poll: &Poll) -> Shutdown {
     let waker = Waker::new(poll.registry(), WAKER)
         .ok()
         .expect(rt, "a waker");
-    let words = Vec::from_array(alloc, [LoopWord::new(waker)]).ok();
-    let control = ServerControl::new(words.expect(rt, "memory"));
-    let servers = Vec::from_array(alloc, [control]).ok().expect(rt, "memory");
-    Shutdown::new(None, servers)
+    let words = list_of(rt, alloc, LoopWord::new(waker));
+    Shutdown::new(None, list_of(rt, alloc, ServerControl::new(words)))
 }
 
 /// The server n1 of n1 and n2.
 fn life<R: Abort>(rt: &R, alloc: Global) -> ServerIdentity {
     let first = NodeId::read(b"n1").ok().expect(rt, "a name");
     let second = NodeId::read(b"n2").ok().expect(rt, "a name");
-    let names = Vec::from_array(alloc, [first, second]).ok();
     let inc = Incarnation::new(1).expect(rt, "an incarnation");
-    ServerIdentity::new(names.expect(rt, "memory"), 0, inc, 1).expect(rt, "a server")
+    let mut names = list_of(rt, alloc, first);
+    assert!(rt; names.push(second).is_ok());
+    ServerIdentity::new(names, 0, inc, 1).expect(rt, "a server")
+}
+
+/// What the loop of n1 has in common with the test: where the other server listens, where the servers are, how n1 is stopped, and what it told.
+#[derive(Drop)]
+struct Shared {
+    other: TcpListener,
+    addresses: PeerAddresses,
+    shutdown: Shutdown,
+    watch: Watch,
+}
+
+/// The same before the loop runs, which is to wait on this.
+fn new_shared<R: Net + Abort>(rt: &R, alloc: Global, poll: &Poll) -> Shared {
+    Shared {
+        other: listener(rt, OTHER),
+        addresses: addresses(rt, alloc),
+        shutdown: shutdown(rt, alloc, poll),
+        watch: Watch {
+            rounds: AtomicU64::new(0),
+            refused: AtomicU64::new(0),
+        },
+    }
 }
 
 /// Whether a server has streams, and each sends small messages without a pause.
@@ -131,16 +153,26 @@ fn run_on<C: ServerCalls, R: Abort + Wait + Net + Clock + RandomSource>(
     alloc: Global,
     node: C,
     sockets: Sockets,
-    addresses: &PeerAddresses,
-    shutdown: &Shutdown,
-    watch: &Watch,
+    shared: &Shared,
 ) -> bool {
     let host = HostText::new();
     let connections = Connections::new(alloc, node, life(rt, alloc), host, OWN, 0).ok();
     let mut connections = connections.expect(rt, "memory");
-    let ran = connections.run(rt, sockets, addresses, shutdown, watch);
+    let ran = connections.run(
+        rt,
+        sockets,
+        &shared.addresses,
+        &shared.shutdown,
+        &shared.watch,
+    );
     assert!(rt; ran.is_ok());
     has_prompt_streams(&connections)
+}
+
+/// Ends a server that has issued nothing.
+fn ends_unused<N: NodeName, R: Abort + Wait>(rt: &R, alloc: Global, node: Node<N>) {
+    let report = finish(rt, alloc, node, Vec::new(alloc)).ok();
+    assert!(rt; report.expect(rt, "a report").issued.get() == 0);
 }
 
 /// The same of a server of these parts, which has issued nothing at its end.
@@ -149,16 +181,13 @@ fn run_named<N: NodeName, R: Abort + Wait + Net + Clock + RandomSource>(
     alloc: Global,
     parts: Parts,
     sockets: Sockets,
-    addresses: &PeerAddresses,
-    shutdown: &Shutdown,
-    watch: &Watch,
+    shared: &Shared,
 ) -> bool
     requires { (parts.race ≡ N.race) × (parts.lanes ≡ N.lanes) × (parts.keep ≡ N.keep) }
 {
     let node: Node<N> = ThreadNode::start(alloc, parts).ok().expect(rt, "memory");
-    let is_prompt = run_on(rt, alloc, &node, sockets, addresses, shutdown, watch);
-    let report = report_of(rt, alloc, node, Vec::new(alloc));
-    assert_eq!(rt; report.issued.get(), 0);
+    let is_prompt = run_on(rt, alloc, &node, sockets, shared);
+    ends_unused(rt, alloc, node);
     is_prompt
 }
 
@@ -167,13 +196,11 @@ fn run<R: Abort + Wait + Net + Clock + RandomSource>(
     rt: &R,
     alloc: Global,
     sockets: Sockets,
-    addresses: &PeerAddresses,
-    shutdown: &Shutdown,
-    watch: &Watch,
+    shared: &Shared,
 ) -> bool {
     let made = Parts::new(alloc, life(rt, alloc), false).ok();
     let (parts, _parkers) = made.expect(rt, "memory");
-    run_named::<Brand, _>(rt, alloc, parts, sockets, addresses, shutdown, watch)
+    run_named::<Brand, _>(rt, alloc, parts, sockets, shared)
 }
 
 /// Closes each dial that has come by now. How many there were.
@@ -208,34 +235,45 @@ fn addresses<R: Abort>(rt: &R, alloc: Global) -> PeerAddresses {
 
 /// The other server has its address from now on. Whether that is another one than before.
 fn tell_address<R: Wait + Abort>(rt: &R, alloc: Global, addresses: &PeerAddresses) -> bool {
-    let found = Vec::from_array(alloc, [address_of(OTHER)]).ok();
-    addresses.set(rt, 1, found.expect(rt, "memory"))
+    addresses.set(rt, 1, list_of(rt, alloc, address_of(OTHER)))
+}
+
+/// The other server has its address after a while, which is told once. No dial comes before that.
+fn learns_address<R: Clock + Wait + Abort>(rt: &R, alloc: Global, shared: &Shared) {
+    thread::sleep(rt, Duration::from_millis(COUNTED));
+    assert!(rt; close_dials(&shared.other) == 0);
+    assert!(rt; tell_address(rt, alloc, &shared.addresses));
+    assert!(rt; !tell_address(rt, alloc, &shared.addresses));
+    shared.shutdown.wake_all();
+}
+
+/// Holds the next dial for a while, in which no other one comes, and has all servers stop.
+fn holds_route<R: Clock + Abort>(rt: &R, shared: &Shared) {
+    let open = next_dial(rt, &shared.other);
+    thread::sleep(rt, Duration::from_millis(OPEN));
+    assert!(rt; close_dials(&shared.other) == 0);
+    shared.shutdown.fail();
+    drop(open);
 }
 
 /// The other server has its address after a while, closes each route for another while, and holds one at last; then all servers stop. No dial
 /// comes before there is an address, three to eight are closed, and none comes while one is open.
-fn refuses_routes<R: Clock + Wait + Abort>(
-    rt: &R,
-    alloc: Global,
-    other: &TcpListener,
-    addresses: &PeerAddresses,
-    shutdown: &Shutdown,
-) {
-    thread::sleep(rt, Duration::from_millis(COUNTED));
-    assert_eq!(rt; close_dials(other), 0);
-    assert!(rt; tell_address(rt, alloc, addresses));
-    assert!(rt; !tell_address(rt, alloc, addresses));
-    shutdown.wake_all();
+fn refuses_routes<R: Clock + Wait + Abort>(rt: &R, alloc: Global, shared: &Shared) {
+    learns_address(rt, alloc, shared);
     for _dial in 0..3 {
-        drop(next_dial(rt, other));
+        drop(next_dial(rt, &shared.other));
     }
     thread::sleep(rt, Duration::from_millis(COUNTED));
-    assert!(rt; close_dials(other) <= 5);
-    let open = next_dial(rt, other);
-    thread::sleep(rt, Duration::from_millis(OPEN));
-    assert_eq!(rt; close_dials(other), 0);
-    shutdown.fail();
-    drop(open);
+    assert!(rt; close_dials(&shared.other) <= 5);
+    holds_route(rt, shared);
+}
+
+/// The loop that has run since then has told once that nobody can be accepted, and has made no more rounds than one in a millisecond.
+fn assert_has_paused<R: Clock + Abort>(rt: &R, watch: &Watch, start: Instant) {
+    assert_eq!(rt; watch.refused.load(Ordering::SeqCst), 1);
+    let took = start.elapsed(rt).ok().expect(rt, "a time");
+    let rounds = u128::from(watch.rounds.load(Ordering::SeqCst));
+    assert!(rt; rounds <= took.as_millis().saturating_add(100));
 }
 
 /// The loop stops at once in the end, has told once that nobody can be accepted, has waited between its dials, and has made no more rounds
@@ -244,24 +282,15 @@ fn refuses_routes<R: Clock + Wait + Abort>(
 fn a_loop_pauses_where_accepting_fails_and_each_route_is_refused(rt: HostRuntime) {
     let alloc = rt.alloc();
     let start = Instant::now(&rt).ok().expect(&rt, "a time");
-    let other = listener(&rt, OTHER);
     let sockets = sockets(&rt);
-    let shutdown = shutdown(&rt, alloc, &sockets.poll);
-    let addresses = addresses(&rt, alloc);
-    let watch = Watch {
-        rounds: AtomicU64::new(0),
-        refused: AtomicU64::new(0),
-    };
+    let shared = new_shared(&rt, alloc, &sockets.poll);
     let (is_prompt, ()) = join(
         &rt,
-        || run(&rt, alloc, sockets, &addresses, &shutdown, &watch),
-        || refuses_routes(&rt, alloc, &other, &addresses, &shutdown),
+        || run(&rt, alloc, sockets, &shared),
+        || refuses_routes(&rt, alloc, &shared),
     );
     assert!(rt; is_prompt);
-    assert_eq!(rt; watch.refused.load(Ordering::SeqCst), 1);
-    let took = start.elapsed(&rt).ok().expect(&rt, "a time");
-    let rounds = u128::from(watch.rounds.load(Ordering::SeqCst));
-    assert!(rt; rounds <= took.as_millis().saturating_add(100));
+    assert_has_paused(&rt, &shared.watch, start);
 }
 
 /// The one server of a process that stands at the third place of its cluster is asked to drain by that place, and no other is.

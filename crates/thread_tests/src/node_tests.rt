@@ -41,9 +41,8 @@ enum Part {
     Leaves,
     /// Has the hub and both shards drain.
     Drains,
-    /// Has all drain where the first shard does already, and where the hub does too.
-    DrainsTheRest,
-    DrainsTheLast,
+    /// Has all drain where the first shard does already, and the hub too where this is true.
+    DrainsTheRest(bool),
 }
 
 /// What is played at a server of so many shards, which writes down what it does where that is to be kept.
@@ -93,12 +92,18 @@ impl Gate for Scene {
     }
 }
 
+/// A list of this alone.
+pub(crate) fn list_of<T: Drop>(rt: &impl Abort, alloc: Global, item: T) -> Vec<T> {
+    let mut list = Vec::new(alloc);
+    assert!(rt; list.push(item).is_ok());
+    list
+}
+
 /// The server n1, alone, of so many shards.
 fn server(rt: &impl Abort, alloc: Global, shards: u64) -> ServerIdentity {
     let name = NodeId::read(b"n1").ok().expect(rt, "a name");
-    let names = Vec::from_array(alloc, [name]).ok().expect(rt, "memory");
     let inc = Incarnation::new(1).expect(rt, "an incarnation");
-    ServerIdentity::new(names, 0, inc, shards).expect(rt, "a server")
+    ServerIdentity::new(list_of(rt, alloc, name), 0, inc, shards).expect(rt, "a server")
 }
 
 /// `hello` on `foo` behind a header block, as a client says it.
@@ -148,7 +153,7 @@ fn member<N: NodeName, R: Abort + Wait>(
     let conn = pass.attach(rt, node, shard).ok().expect(rt, "a connection");
     assert!(rt; refusal(rt, alloc, node, pass, shard, conn).is_none());
     assert!(rt; pass.collect(rt, node, shard).is_ok());
-    assert_eq!(rt; pass.hub_lists().expect(rt, "lists").changes().len(), 1);
+    assert!(rt; pass.hub_lists().expect(rt, "lists").changes().len() == 1);
     conn
 }
 
@@ -160,15 +165,9 @@ fn pair<N: NodeName, R: Abort + Wait>(rt: &R, alloc: Global, node: &Node<N>, pas
     assert!(rt; pass.set_headers(rt, node, shards, last, true).is_ok());
 }
 
-/// Whether there was room for one more publication: no shard was a window behind.
-fn is_published<N: NodeName, R: Abort + Wait>(
-    rt: &R,
-    node: &Node<N>,
-    pass: &mut Pass<N>,
-    publication: &Pub,
-    conn: u64,
-) -> bool {
-    match pass.publish(rt, node, ConnId::new(conn), publication, 0) {
+/// Whether a publication was answered so for which there was room: no shard was a window behind.
+fn is_published<T: Drop>(rt: &impl Abort, answer: Result<T, Failure<HubFault>>) -> bool {
+    match answer {
         Ok(_) => true,
         Err(Failure::Refused(HubFault::Busy(_))) => false,
         Err(_) => panic!(rt; "a publication is refused"),
@@ -198,7 +197,8 @@ fn publish_all<N: NodeName, R: Abort + Wait>(
         if published >= scene.play.each {
             return;
         }
-        if is_published(rt, node, pass, &scene.publication, conn) {
+        let answer = pass.publish(rt, node, ConnId::new(conn), &scene.publication, 0);
+        if is_published(rt, answer) {
             published = published.saturating_add(1);
             scene.published.fetch_add(1, Ordering::SeqCst);
         } else {
@@ -243,26 +243,22 @@ fn sleep<N: NodeName, R: Wait>(rt: &R, node: &Node<N>, scene: &Scene) {
     }
 }
 
-/// A connection of the shard goes, and the hub hears of it.
-fn goes<N: NodeName, R: Abort + Wait>(
-    rt: &R,
-    node: &Node<N>,
-    pass: &mut Pass<N>,
-    shard: u64,
-    conn: u64,
-) {
-    assert!(rt; pass.detach(rt, node, shard, ConnId::new(conn)).is_ok());
-    assert!(rt; pass.collect(rt, node, shard).is_ok());
+/// The second connections of both shards go once half was published, and the hub hears of it.
+fn leave<N: NodeName, R: Abort + Wait>(rt: &R, node: &Node<N>, pass: &mut Pass<N>, scene: &Scene) {
+    wait_for(rt, scene, scene.play.each);
+    for shard in 1..3 {
+        assert!(rt; pass.detach(rt, node, shard, ConnId::new(shard + 2)).is_ok());
+        assert!(rt; pass.collect(rt, node, shard).is_ok());
+    }
 }
 
 /// The hub and both shards drain once, and no more; a connection of each shard gets no subscription behind that.
 fn drain<N: NodeName, R: Abort + Wait>(rt: &R, alloc: Global, node: &Node<N>, pass: &mut Pass<N>) {
     assert!(rt; pass.drain_hub(rt, node).is_ok());
     assert!(rt; pass.drain_hub(rt, node).is_err());
-    assert!(rt; pass.drain_shard(rt, node, 1).is_ok());
-    assert!(rt; pass.drain_shard(rt, node, 2).is_ok());
-    assert!(rt; pass.drain_shard(rt, node, 1).is_err());
     for shard in 1..3 {
+        assert!(rt; pass.drain_shard(rt, node, shard).is_ok());
+        assert!(rt; pass.drain_shard(rt, node, shard).is_err());
         let refusal = refusal(rt, alloc, node, pass, shard, ConnId::new(shard));
         assert!(rt;
             matches!(
@@ -273,26 +269,27 @@ fn drain<N: NodeName, R: Abort + Wait>(rt: &R, alloc: Global, node: &Node<N>, pa
     }
 }
 
-/// Two shards, of which the first drains already: the drain of all goes past it, and the second drains too. Behind it all
-/// drain, and the next is refused.
-fn drain_the_rest<N: NodeName, R: Abort + Wait>(rt: &R, node: &Node<N>) {
-    assert!(rt; node.drain_shard(rt, 1).is_ok());
-    assert!(rt; matches!(node.drain(rt), Ok(Some(_))));
-    assert!(rt; node.drain_shard(rt, 2).is_err());
-    assert!(rt;
-        matches!(
-            node.drain(rt),
-            Err(Failure::Refused(NodeFault::Hub(HubFault::Draining)))
-        )
-    );
+/// Whether the hub drained only by this drain of all, which had a shard to drain at least.
+fn is_hub_new(rt: &impl Abort, drained: Result<Option<Vec<usize>>, Failure<NodeFault>>) -> bool {
+    drained.ok().expect(rt, "a drain").is_some()
 }
 
-/// The same where it is the hub that drains already, and with it the first shard.
-fn drain_the_last<N: NodeName, R: Abort + Wait>(rt: &R, node: &Node<N>) {
-    assert!(rt; node.drain_hub(rt).is_ok());
+/// Whether all drained already.
+fn did_drain(drained: Result<Option<Vec<usize>>, Failure<NodeFault>>) -> bool {
+    matches!(
+        drained,
+        Err(Failure::Refused(NodeFault::Hub(HubFault::Draining)))
+    )
+}
+
+/// Two shards, of which the first drains already, and the hub too where that is so: the drain of all goes past what does, and the second
+/// shard drains too. Behind it all drain, and the next is refused.
+fn drain_the_rest<N: NodeName, R: Abort + Wait>(rt: &R, node: &Node<N>, has_hub: bool) {
+    assert!(rt; !has_hub || node.drain_hub(rt).is_ok());
     assert!(rt; node.drain_shard(rt, 1).is_ok());
-    assert!(rt; matches!(node.drain(rt), Ok(None)));
+    assert!(rt; is_hub_new(rt, node.drain(rt)) != has_hub);
     assert!(rt; node.drain_shard(rt, 2).is_err());
+    assert!(rt; did_drain(node.drain(rt)));
 }
 
 /// Plays the part at this place: what its calls were answered.
@@ -312,14 +309,9 @@ fn act<N: NodeName + Send + Sync, R: Abort + Threads + Wait + Sync>(
         Some(Part::Works) => work(rt, node, scene, 0, u64::MAX),
         Some(Part::WorksBehind) => work(rt, node, scene, scene.play.all, LOOKS),
         Some(Part::Sleeps) => sleep(rt, node, scene),
-        Some(Part::Leaves) => {
-            wait_for(rt, scene, scene.play.each);
-            goes(rt, node, &mut pass, 1, 3);
-            goes(rt, node, &mut pass, 2, 4);
-        }
+        Some(Part::Leaves) => leave(rt, node, &mut pass, scene),
         Some(Part::Drains) => drain(rt, alloc, node, &mut pass),
-        Some(Part::DrainsTheRest) => drain_the_rest(rt, node),
-        Some(Part::DrainsTheLast) => drain_the_last(rt, node),
+        Some(Part::DrainsTheRest(has_hub)) => drain_the_rest(rt, node, *has_hub),
         None => {}
     }
     pass
@@ -332,22 +324,28 @@ fn take_count<N: NodeName, R: Abort + Wait>(
     pass: &mut Pass<N>,
     shard: u64,
 ) -> u64 {
-    let taken = pass.take(rt, node, shard, ConnId::new(shard), usize::MAX);
-    assert!(rt; taken.is_ok());
+    assert!(rt;
+        pass.take(rt, node, shard, ConnId::new(shard), usize::MAX)
+            .is_ok()
+    );
     pass.lists().expect(rt, "lists").taken().len() as u64
 }
 
-/// Plays all parts, between the first calls of clients and their last ones: what the parts' calls were answered. Where no member leaves, each
-/// publication reached one of both.
-fn play_parts<N: NodeName + Send + Sync, R: Abort + Threads + Wait + Sync>(
+/// Whether so many publications reached both members. Where no member leaves, each publication reached one of them.
+fn is_reached(play: &Play, taken: u64) -> bool {
+    play.members > 1 || taken == play.all
+}
+
+/// Plays all parts, between the first calls of clients and their last ones: what the calls of all were answered.
+fn perform<N: NodeName + Send + Sync, R: Abort + Threads + Wait + Sync>(
     rt: &R,
     alloc: Global,
     node: &Node<N>,
     scene: &Scene,
-    clients: &mut Pass<N>,
 ) -> Vec<Pass<N>> {
+    let mut clients = Pass::new(alloc);
     for _pair in 0..scene.play.members {
-        pair(rt, alloc, node, clients);
+        pair(rt, alloc, node, &mut clients);
     }
     let count = scene.play.parts.len();
     let passes = thread::map_indices(
@@ -356,34 +354,12 @@ fn play_parts<N: NodeName + Send + Sync, R: Abort + Threads + Wait + Sync>(
         count,
         &|place| act(rt, alloc, node, scene, place),
     );
-    let of_first = take_count(rt, node, clients, 1);
-    let of_last = take_count(rt, node, clients, node.shards());
-    assert!(rt; scene.play.members > 1 || of_first.saturating_add(of_last) == scene.play.all);
-    passes.ok().expect(rt, "memory")
-}
-
-/// Plays at a server. Gives what its callers were answered.
-fn perform<N: NodeName + Send + Sync, R: Abort + Threads + Wait + Sync>(
-    rt: &R,
-    alloc: Global,
-    node: &Node<N>,
-    scene: &Scene,
-) -> Vec<Pass<N>> {
-    let mut clients = Pass::new(alloc);
-    let mut passes = play_parts(rt, alloc, node, scene, &mut clients);
+    let mut passes = passes.ok().expect(rt, "memory");
+    let of_first = take_count(rt, node, &mut clients, 1);
+    let of_last = take_count(rt, node, &mut clients, node.shards());
+    assert!(rt; is_reached(&scene.play, of_first.saturating_add(of_last)));
     assert!(rt; passes.push(clients).is_ok());
     passes
-}
-
-/// Ends a server whose callers were answered so: its report.
-pub(crate) fn report_of<N: NodeName, R: Abort + Wait>(
-    rt: &R,
-    alloc: Global,
-    node: Node<N>,
-    passes: Vec<Pass<N>>,
-) -> Report {
-    let report = finish(rt, alloc, node, passes).ok();
-    report.expect(rt, "a report")
 }
 
 /// Plays at the server of these parts, and ends it: its report.
@@ -397,7 +373,8 @@ fn stage<N: NodeName + Send + Sync, R: Abort + Threads + Wait + Sync>(
 {
     let node: Node<N> = ThreadNode::start(alloc, parts).ok().expect(rt, "memory");
     let passes = perform(rt, alloc, &node, scene);
-    report_of(rt, alloc, node, passes)
+    let report = finish(rt, alloc, node, passes).ok();
+    report.expect(rt, "a report")
 }
 
 /// How many jobs the shard worked to their end. Of which turns it won the first queue name, and placed a message for it, is counted by turn.
@@ -433,17 +410,28 @@ fn is_last(rt: &impl Abort, report: &Report, play: Play) {
     );
 }
 
-/// The report has all jobs, each shard worked all of them to their end, and each was won by one. Where members leave, more is published than
-/// they have room for, and what nobody has room for is won by nobody.
-fn is_whole(rt: &impl Abort, alloc: Global, report: &Report, play: Play) {
-    let wins = vec![in alloc; 0; play.all.saturating_add(1) as usize].ok();
-    let mut wins = wins.expect(rt, "memory");
+/// The report has all jobs, and each shard worked all of them to their end.
+fn has_all(rt: &impl Abort, report: &Report, play: Play) {
     assert!(rt; report.kept);
     assert_eq!(rt; report.jobs.len() as u64, play.all);
     assert_eq!(rt; report.worked.len() as u64, play.shards);
-    for tape in &report.worked {
-        assert_eq!(rt; end_count(tape.as_slice(), wins.as_mut_slice()), play.all);
+}
+
+/// How many shards won the first queue name of each turn, and placed a message for it. Each has worked so many jobs to their end.
+fn wins_of(rt: &impl Abort, alloc: Global, worked: &[Vec<ShardEntry>], all: u64) -> Vec<u64> {
+    let wins = vec![in alloc; 0; all.saturating_add(1) as usize].ok();
+    let mut wins = wins.expect(rt, "memory");
+    for tape in worked {
+        assert!(rt; end_count(tape.as_slice(), wins.as_mut_slice()) == all);
     }
+    wins
+}
+
+/// The report has all jobs, each shard worked all of them to their end, and each was won by one. Where members leave, more is published than
+/// they have room for, and what nobody has room for is won by nobody.
+fn is_whole(rt: &impl Abort, alloc: Global, report: &Report, play: Play) {
+    has_all(rt, report, play);
+    let wins = wins_of(rt, alloc, report.worked.as_slice(), play.all);
     let least = if play.members > 1 { 0 } else { 1 };
     assert!(rt;
         wins.iter()
@@ -564,6 +552,14 @@ fn a_server_that_drains_has_its_report(rt: HostRuntime) {
 
 #[test]
 fn a_drain_goes_past_what_drains_already(rt: HostRuntime) {
-    played(&rt, rt.alloc(), unpublished(false, &[Part::DrainsTheRest]));
-    played(&rt, rt.alloc(), unpublished(false, &[Part::DrainsTheLast]));
+    played(
+        &rt,
+        rt.alloc(),
+        unpublished(false, &[Part::DrainsTheRest(false)]),
+    );
+    played(
+        &rt,
+        rt.alloc(),
+        unpublished(false, &[Part::DrainsTheRest(true)]),
+    );
 }

@@ -194,6 +194,15 @@ fn member<R: Net<Stream = TcpStream> + Clock + Abort>(rt: &R, alloc: Global, por
     member
 }
 
+/// A member at each of three servers.
+fn members<R: Net<Stream = TcpStream> + Clock + Abort>(rt: &R, alloc: Global) -> Vec<Client> {
+    let mut members = Vec::new(alloc);
+    for port in 17_420..17_423 {
+        assert!(rt; members.push(member(rt, alloc, port)).is_ok());
+    }
+    members
+}
+
 /// Counts how often each number was heard, by the members together: how many of them have heard one now.
 fn count<R: Abort>(rt: &R, alloc: Global, members: &mut [Client], times: &mut [u64]) -> u64 {
     let mut served = 0_u64;
@@ -258,15 +267,11 @@ fn publishes_all<R: Clock + Abort>(
 
 /// A queue group with a member at each of three servers is served each of a thousand messages once.
 fn serves_once<R: Net<Stream = TcpStream> + Clock + Abort>(rt: &R, alloc: Global) {
-    let mut members = [
-        member(rt, alloc, 17_420),
-        member(rt, alloc, 17_421),
-        member(rt, alloc, 17_422),
-    ];
+    let mut members = members(rt, alloc);
     let mut says = greeted(rt, alloc, 17_420);
     let mut times = [0_u64; 1_001];
-    warms_up(rt, alloc, &mut says, &mut members, &mut times);
-    publishes_all(rt, alloc, &mut says, &mut members, &mut times);
+    warms_up(rt, alloc, &mut says, members.as_mut_slice(), &mut times);
+    publishes_all(rt, alloc, &mut says, members.as_mut_slice(), &mut times);
     assert!(rt; times.iter().skip(1).all(|time| *time == 1));
 }
 

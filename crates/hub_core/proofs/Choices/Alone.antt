@@ -13,7 +13,7 @@ use Rattle.list_laws.proofs.Tests.{and_true, not_true, eq_true, eq_false, le_tru
 use Rattle.subj.specs.declared.keys.Key.{Key}
 use Rattle.subj.specs.declared.limits.TheConstants.{MAX_QUEUE_NAMES, MAX_WEIGHT}
 use Rattle.subj.specs.Matching.{subject_matches}
-use Rattle.subj.specs.QueueNames.{are_rising, is_named}
+use Rattle.subj.specs.QueueNames.{are_rising, is_named, are_queue_names}
 use Rattle.subj.specs.Servers.{ServerIdentity, IsListed, name_of, own_name}
 use Rattle.pick.specs.Pick.{units}
 use Rattle.interest.specs.Counts.{Counts, IsInterest}
@@ -51,6 +51,22 @@ names_alone server subject q (peer ∷ peers) names alone =
     ap (λ b. names_from server subject (suc q) peers (cond b (names_in subject peer.heard.keys names) names))
     (first server q peer peers alone)
     ∙ names_alone server subject (suc q) peers names (others server q peer peers alone)
+
+-- all names that want the subject are of its own counts
+pub serves_alone : (server : ServerIdentity) (hub : State) (subject : List ℕ) (names : List (List ℕ))
+    → Alone server 0 hub.peers
+    → IsInterest hub.counts
+    → are_queue_names names ≡ true
+    → names ≡ queue_names server hub subject
+    → ServesAlone server hub subject names
+serves_alone server hub subject names alone counted ordered found = record {
+  alone = alone;
+  in_mind = record {
+    counted = counted;
+    ordered = ordered;
+    names_are = found ∙ names_alone server subject 0 hub.peers (names_in subject hub.counts []) alone;
+  };
+}
 
 -- ---- all units are the server's own
 

@@ -1,27 +1,19 @@
 -- The choice, name by name and peer by peer.
-use Rattle.std.proofs.Common.{◌≡◌, ℕ, suc, ◌+◌, ◌*◌, ◌<◌, ◌≤◌, Bool, true, false, ◌&&◌, ◌||◌, cond, List, [], ◌∷◌, ◌++◌, length, take, drop, get_or, Option, Some, refl, sym, ap, ◌∙◌, arith, append_assoc, add-one}
-use Rattle.std.specs.Prelude.{map, slice_get, slice_set, unwrap_or, option_and_then, option_to_list, if◌then◌else◌}
-use Rattle.std.proofs.lemmas.List.{length-take-le, take_more_set, at_drop_more, at_drop_all, append-nil}
+use Rattle.std.proofs.Common.{◌≡◌, ℕ, suc, ◌+◌, ◌<◌, ◌≤◌, Bool, true, false, ◌&&◌, ◌||◌, cond, List, [], ◌∷◌, ◌++◌, length, take, drop, get_or, Option, Some, refl, sym, ap, ◌∙◌, arith, append_assoc, add-one}
+use Rattle.std.specs.Prelude.{slice_get, unwrap_or, option_to_list, if◌then◌else◌}
+use Rattle.std.proofs.lemmas.List.{length-take-le, at_drop_more}
 use Rattle.std.specs.List.{count_by}
-use Rattle.std.proofs.lemmas.List.Sums.{sum_by-append, sum_by-cons, count_by-le-length}
+use Rattle.std.proofs.lemmas.List.Sums.{sum_by-cons, count_by-le-length}
 use Rattle.std.proofs.lemmas.Option.{slice_get-get_or}
 use Rattle.list_laws.proofs.Tests.{or_false}
 use Rattle.subj.specs.QueueNames.{is_named}
 use Rattle.subj.specs.Servers.{ServerIdentity, name_of}
-use Rattle.pick.specs.Pick.{Weighted, total_weight}
 use Rattle.interest.specs.Counts.{Counts}
 use Rattle.interest.specs.Matches.{names_in, has_queue_match}
 use Rattle.interest.proofs.Matching.Gathering.{not_fewer_in, none_queued}
 use Rattle.hub_core.specs.State.{State, Peer}
 use Rattle.hub_core.specs.Choice.{is_eligible, weight_at, weights_from, names_from, queue_names}
 use Rattle.hub_core.specs.Chosen.{chosen_for, wants_name_from}
-
--- ---- an array is written from its front on
-
-pub set_step : {X : Type 0} (xs ys : List X) (i : ℕ) (x : X)
-    → i < length xs
-    → take (i + 1) (slice_set xs i x) ++ ys ≡ take i xs ++ (x ∷ ys)
-set_step xs ys i x below = ap (λ l. l ++ ys) (take_more_set xs i x below) ∙ append_assoc (take i xs) (x ∷ []) ys
 
 -- ---- the names, peer by peer
 
@@ -121,41 +113,6 @@ weights_step server counts subject name peers i peer server_name weight below pl
 
     weighs : weight ≡ weight_at server counts subject name i (get_or peers i peer)
     weighs = is ∙ ap (weight_at server counts subject name i) read
-
-pub total_step : (xs : List Weighted) (i most : ℕ) (server : Weighted)
-    → i < length xs
-    → total_weight (take i xs) ≤ i * most
-    → server.1 ≤ most
-    → total_weight (take (i + 1) (slice_set xs i server)) ≤ (i + 1) * most
-total_step xs i most server below before one =
-    let whole = ap total_weight (take_more_set xs i server below)
-    ∙ sum_by-append (λ (s : Weighted). s.1) (take i xs) (server ∷ []) in
-    let more : (i + 1) * most ≡ i * most + most = omega arith in
-    omega arith
-
-pub all_written : {X Y : Type 0} (xs ys : List X) (rest : List Y → List X) (items : List Y) (i : ℕ)
-    → length items ≤ i
-    → take i xs ++ rest (drop i items) ≡ ys
-    → rest [] ≡ []
-    → take i xs ≡ ys
-all_written xs ys rest items i done is none =
-    sym (append-nil (take i xs)) ∙ ap (λ l. take i xs ++ l) (sym none ∙ sym (at_drop_all rest items i done)) ∙ is
-
--- ---- the servers, name by name
-
-pub servers_step : {A B : Type 0} (f : A → Option B) (xs : List A) (ys zs : List (Option B)) (i : ℕ) (d : A)
-    (y : Option B)
-    → i < length xs
-    → y ≡ option_and_then f (slice_get xs i)
-    → zs ≡ ys ++ y ∷ []
-    → ys ++ map f (drop i xs) ≡ map f xs
-    → zs ++ map f (drop (i + 1) xs) ≡ map f xs
-servers_step f xs ys zs i d y below is put before =
-    let value : y ≡ f (get_or xs i d) = is ∙ ap (option_and_then f) (slice_get-get_or xs i d below) in
-    ap (λ l. l ++ map f (drop (i + 1) xs)) put
-    ∙ append_assoc ys (y ∷ []) (map f (drop (i + 1) xs))
-    ∙ ap (λ l. ys ++ l) (ap (λ v. v ∷ map f (drop (i + 1) xs)) value ∙ sym (at_drop_more (map f) xs i d below))
-    ∙ before
 
 -- ---- the names, copied one by one
 

@@ -135,13 +135,6 @@ behind_none hub =
     let published : hub.published + 0 ≡ hub.published = omega arith in
     (λ k. record hub { issued = issued k; published = published k })
 
-pub behind_more : (hub : State) (count more : ℕ)
-    → behind_local more (behind_local count hub) ≡ behind_local (count + more) hub
-behind_more hub count more =
-    let issued : hub.issued + count + more ≡ hub.issued + (count + more) = omega arith in
-    let published : hub.published + count + more ≡ hub.published + (count + more) = omega arith in
-    (λ k. record hub { issued = issued k; published = published k })
-
 -- behind one that takes the next turn and the next number
 pub local_issued : (server : ServerIdentity) (hub : State) (issued : ℕ) (next : Option ℕ)
     → next ≡ next_turn hub.issued
@@ -211,7 +204,7 @@ stays_local server hub subject queues count owes = record {
 pub local_jobs_follow : LocalJobsFollow
 local_jobs_follow = record { local = is_local; stays = stays_local; no_frames = no_frames }
 
--- ---- where no peer is eligible, and where no name wants the subject
+-- ---- where no peer is eligible
 
 unwanted : (server : ServerIdentity) (subject : List ℕ) (q : ℕ) (peers : List Peer)
     → is_alone_from server q peers ≡ true
@@ -234,19 +227,4 @@ local_alone server hub subject names listed sound serves = record {
   few = serves.in_mind.ordered;
   served = chosen_alone server hub subject names listed sound serves;
   unsent = unwanted server subject 0 hub.peers serves.alone;
-}
-
-pub local_unnamed : (server : ServerIdentity) (hub : State) (subject : List ℕ)
-    → IsListed server
-    → IsSound server hub
-    → queue_names server hub subject ≡ []
-    → wants_plain_from server subject 0 hub.peers ≡ false
-    → OwesLocalJob server hub subject []
-local_unnamed server hub subject listed sound none unsent = record {
-  listed = listed;
-  placed = sound.placed;
-  wanted = none;
-  few = refl;
-  served = λ word name i. absurd i;
-  unsent = unsent;
 }

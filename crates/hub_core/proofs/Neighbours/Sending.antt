@@ -1,19 +1,16 @@
 -- The frames of a publication, peer by peer, and the names of each server.
-use Rattle.std.proofs.Common.{◌≡◌, ℕ, suc, ◌+◌, ◌<◌, ◌≤◌, Bool, true, false, ◌&&◌, cond, List, [], ◌∷◌, ◌++◌, length, take, drop, get_or, Option, Some, None, refl, sym, ap, ◌∙◌, arith, append_assoc, add-one}
+use Rattle.std.proofs.Common.{◌≡◌, ℕ, suc, ◌+◌, ◌<◌, ◌≤◌, Bool, true, false, ◌&&◌, cond, List, [], ◌∷◌, ◌++◌, length, take, drop, get_or, Option, refl, sym, ap, ◌∙◌, arith, append_assoc, add-one}
 use Rattle.std.specs.Prelude.{map, filter, unwrap_or, not, nat_eq, nat_lt, nat_le, if◌then◌else◌}
 use Rattle.std.proofs.lemmas.Bool.Decides.{nat_tests}
 use Rattle.std.proofs.lemmas.List.{at_drop_more, length-map, take_all}
 use Rattle.std.proofs.lemmas.Option.{slice_get-get_or}
-use Rattle.list_laws.proofs.Tests.{and_true, lt_true}
+use Rattle.list_laws.proofs.Tests.{and_true}
 use Rattle.subj.specs.declared.limits.TheConstants.{MAX_QUEUE_NAMES, ROUTE_FRAMES}
 use Rattle.subj.specs.Messages.{Content}
 use Rattle.subj.proofs.Rising.{before_trans}
 use Rattle.subj.specs.QueueNames.{is_before, is_before_first, are_rising, is_named, are_queue_names}
 use Rattle.subj.specs.Servers.{ServerIdentity, name_of}
 use Rattle.route_values.specs.Frames.{Frame}
-use Rattle.std.specs.Option.{option_or}
-use Rattle.hub_core.specs.declared.faults.HubFault.{HubFault}
-use Rattle.hub_core.specs.declared.faults.HubFault.TheVariants.{Spent, TooManyQueues}
 use Rattle.hub_core.specs.State.{State, Peer}
 use Rattle.hub_core.specs.Choice.{is_eligible, names_for}
 use Rattle.hub_core.specs.Publishing.{Publication, choice_of, is_owed, frames_from}
@@ -21,20 +18,12 @@ use Rattle.hub_core.specs.Chosen.{chosen_for, message_frame, frame_at, sent_from
 use Rattle.hub_core.specs.Serving.{IsServed}
 use Rattle.hub_core.proofs.Choices.Names.{fewer}
 
--- ---- who is eligible is up, and has room
+-- ---- who is eligible is up
 
 pub eligible_up : (server : ServerIdentity) (q : ℕ) (peer : Peer) → is_eligible server q peer ≡ true → peer.up ≡ true
 eligible_up server q peer is =
     (and_true peer.up (nat_lt (length peer.outbox) ROUTE_FRAMES)
     (and_true (not (nat_eq q server.me)) (peer.up && nat_lt (length peer.outbox) ROUTE_FRAMES) is).1).0
-
-pub eligible_room : (server : ServerIdentity) (q : ℕ) (peer : Peer)
-    → is_eligible server q peer ≡ true
-    → length peer.outbox < ROUTE_FRAMES
-eligible_room server q peer is =
-    lt_true (length peer.outbox) ROUTE_FRAMES
-    (and_true peer.up (nat_lt (length peer.outbox) ROUTE_FRAMES)
-    (and_true (not (nat_eq q server.me)) (peer.up && nat_lt (length peer.outbox) ROUTE_FRAMES) is).1).1
 
 -- ---- peer by peer
 
@@ -185,31 +174,7 @@ served_all server hub p names servers few are =
       picks = ap (λ n. take n servers) (sym same) ∙ take_all (length servers) servers (omega arith) ∙ are;
     }
 
--- ---- why a publish is refused, by the turn and by the names
-
-module _ (turn : Option HubFault) (spent : Bool) where
-  abbrev early : Option HubFault
-  early = option_or turn (if spent then Some Spent else None)
-
-  abbrev whole : Bool → Option HubFault
-  whole many = option_or turn (if spent then Some Spent else (if many then Some TooManyQueues else None))
-
-pub refused_early : (turn : Option HubFault) (spent many : Bool) (why : HubFault)
-    → early turn spent ≡ Some why
-    → whole turn spent many ≡ Some why
-refused_early None true many why is = is
-refused_early None false many why is = cc
-refused_early (Some fault) spent many why is = is
-
-pub refused_late : (turn : Option HubFault) (spent many : Bool)
-    → early turn spent ≡ None
-    → whole turn spent many ≡ (if many then Some TooManyQueues else None)
-refused_late None true many is = cc
-refused_late None false many is = refl
-refused_late (Some fault) spent many is = cc
-
-pub too_many : (n m : ℕ) → m < n → nat_lt m n ≡ true
-too_many n m more = grind (arith, nat_tests)
+-- ---- no more names than a publication may have
 
 pub not_too_many : (n m : ℕ) → n ≤ m → nat_lt m n ≡ false
 not_too_many n m few = grind (arith, nat_tests)

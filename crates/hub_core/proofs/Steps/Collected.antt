@@ -16,7 +16,6 @@ use Rattle.hub_core.specs.Events.{Collect, Collected}
 use Rattle.hub_core.specs.Calls.{HasRoomFor, AreCounted, after_changes}
 use Rattle.hub_core.specs.Hubs.{Hub, IsKept, DoesStep}
 use Rattle.hub_core.proofs.Steps.Kept.{kept_after}
-use Rattle.hub_core.proofs.Neighbours.Known.{map_length}
 use Rattle.hub_core.proofs.Neighbours.Puts.{nothing_put}
 use Rattle.hub_core.proofs.Steps.Sound.{changes_fit, changes_listed}
 
@@ -33,9 +32,6 @@ module _ (old : Hub) (deltas : List Delta) (count : ℕ) (frames : List Frame) (
             (changes_of old.state deltas) old.state.peers kept.sound.placed;
         room = changes_fit old.server old.state (changes_of old.state deltas) kept.listed kept.sound;
       }))
-
-  pub slow_placed : length (map (without_slow count) old.state.peers) ≡ length old.server.names
-  slow_placed = map_length (without_slow count) old.state.peers ∙ kept.sound.placed
 
   pub numbers_left : old.state.changed + count ≤ MAX_COUNTER
   numbers_left =

@@ -61,9 +61,6 @@ module _ (old : Hub) (frames : List Frame) (kept : IsKept old) (plan : IsPlanned
   pub number_left : old.state.published < MAX_COUNTER
   number_left = counters.0
 
-  pub turn_left : old.state.issued < MAX_COUNTER
-  turn_left = counters.1
-
   pub issued_kept : (new : State)
       → new ≡ after_frames old.server old.state frames
       → IsKept (record { server = old.server; state = new })

@@ -6,6 +6,7 @@ use Rattle.subj.specs.Servers.{ServerIdentity, place, is_peer}
 use Rattle.hub_core.proofs.Steps.Rooms.{map_none}
 use Rattle.hub_core.specs.Peers.{snapshot_to}
 use Rattle.hub_core.specs.Publishing.{Publication}
+use Rattle.node_parts.specs.declared.told.Received.{Received}
 use Rattle.route_session.specs.Calls.{peer_of as peer_by_name}
 use Rattle.route_session.specs.State.{session_at}
 use Rattle.route_session.specs.Steps.{info_refusal, connect_refusal}
@@ -14,77 +15,73 @@ use Rattle.route_values.specs.Records.{Info, Connect}
 use Rattle.route_values.specs.declared.frames.RouteFrame.{RouteFrame}
 use Rattle.route_values.specs.declared.frames.RouteFrame.TheVariants as route
 use Rattle.node_law.specs.declared.faults.NodeFault.TheVariants as node_fault
-use Rattle.node_law.specs.Answers.{Answer, OnSession, Kept}
+use Rattle.node_law.specs.Answers.{OnSession, Kept, TakenFrames, Nothing, Issued, Collected}
 use Rattle.node_law.specs.Events.{Own, Publish, Collect, Drain, Dial, Accept, CutSession, TakeFrames, Receive, OnInfo, OnConnect}
-use Rattle.node_core.specs.Outcome.{Outcome, Answers, Does}
-use Rattle.node_core.specs.Served.{Served, AcceptStep, InfoStep, ConnectStep}
+use Rattle.node_core.specs.Outcome.{Does, with_frames}
+use Rattle.node_core.specs.Served.{Served, DialStep, AcceptStep, CutStep, FramesStep, InfoStep, ConnectStep, PublishStep, ReceiveStep, CollectStep, DrainStep, told_of_received}
 use Rattle.node_law.specs.Steps.{node_frames, seen_name}
-use Rattle.node_core.proofs.Outcomes.Answered.{accept_answers, info_answers, connect_answers}
 use Rattle.node_law.proofs.Moves.HubEvents.{info_greets, connect_greets}
 use Rattle.node_core.proofs.Outcomes.Told.{alone_does}
 
-abbrev pub bare : Answer → List RouteFrame → Outcome
-bare answer frames = record { answer = answer; entries = []; frames = frames; shut = []; ended = [] }
-
-pub publish_does : (old new : Served) (p : Publication) (answer : Answer) (frames : List RouteFrame)
+pub publish_does : (old new : Served) (p : Publication) (turn count : ℕ) (frames : List RouteFrame)
     → frames ≡ node_frames old.server old.node (Own (Publish p))
-    → Answers old (Own (Publish p)) answer new
-    → Does old (Own (Publish p)) (record { answer = answer; entries = []; frames = frames; shut = []; ended = [] }) new
-publish_does old new p answer frames sent d =
-    alone_does old new (Own (Publish p)) answer frames (λ won. record { put = refl; closed = refl; over = refl }) sent d
+    → PublishStep old p turn count new
+    → Does old (Own (Publish p)) (with_frames (Issued turn count) frames) new
+publish_does old new p turn count frames sent d =
+    alone_does old new (Own (Publish p)) (Issued turn count) frames (record { put = refl; closed = refl; over = refl })
+    d.step d.answered sent
 
-pub collect_does : (old new : Served) (shard : ℕ) (answer : Answer) (frames : List RouteFrame)
+pub collect_does : (old new : Served) (shard changes count : ℕ) (cut : List ℕ) (frames : List RouteFrame)
     → frames ≡ node_frames old.server old.node (Own (Collect shard))
-    → Answers old (Own (Collect shard)) answer new
-    → Does old (Own (Collect shard)) (record { answer = answer; entries = []; frames = frames; shut = []; ended = [] })
-    new
-collect_does old new shard answer frames sent d =
-    alone_does old new (Own (Collect shard)) answer frames (λ won. record { put = refl; closed = refl; over = refl })
-    sent d
+    → CollectStep old shard changes count cut new
+    → Does old (Own (Collect shard)) (with_frames (Collected changes count cut) frames) new
+collect_does old new shard changes count cut frames sent d =
+    alone_does old new (Own (Collect shard)) (Collected changes count cut) frames
+    (record { put = refl; closed = refl; over = refl }) d.step d.answered sent
 
-pub drain_does : (old new : Served) (answer : Answer) (frames : List RouteFrame)
+pub drain_does : (old new : Served) (changes count : ℕ) (cut : List ℕ) (frames : List RouteFrame)
     → frames ≡ node_frames old.server old.node (Own Drain)
-    → Answers old (Own Drain) answer new
-    → Does old (Own Drain) (record { answer = answer; entries = []; frames = frames; shut = []; ended = [] }) new
-drain_does old new answer frames sent d =
-    alone_does old new (Own Drain) answer frames (λ won. record { put = refl; closed = refl; over = refl }) sent d
+    → DrainStep old changes count cut new
+    → Does old (Own Drain) (with_frames (Collected changes count cut) frames) new
+drain_does old new changes count cut frames sent d =
+    alone_does old new (Own Drain) (Collected changes count cut) frames
+    (record { put = refl; closed = refl; over = refl }) d.step d.answered sent
 
-pub dial_does : (old new : Served) (peer : ℕ) (answer : Answer)
-    → Answers old (Own (Dial peer)) answer new
-    → Does old (Own (Dial peer)) (record { answer = answer; entries = []; frames = []; shut = []; ended = [] }) new
-dial_does old new peer answer d =
-    alone_does old new (Own (Dial peer)) answer [] (λ won. record { put = refl; closed = refl; over = refl }) refl d
+pub dial_does : (old new : Served) (peer session : ℕ)
+    → DialStep old peer session new
+    → Does old (Own (Dial peer)) (with_frames (OnSession session) []) new
+dial_does old new peer session d =
+    alone_does old new (Own (Dial peer)) (OnSession session) [] (record { put = refl; closed = refl; over = refl })
+    d.step (ap OnSession d.answered) refl
 
-pub cut_does : (old new : Served) (session : ℕ) (answer : Answer)
-    → Answers old (Own (CutSession session)) answer new
-    → Does old (Own (CutSession session)) (record { answer = answer; entries = []; frames = []; shut = []; ended = [] })
-    new
-cut_does old new session answer d =
-    alone_does old new (Own (CutSession session)) answer [] (λ won. record { put = refl; closed = refl; over = refl })
-    refl d
+pub cut_does : (old new : Served) (session : ℕ) (peer : Option ℕ)
+    → CutStep old session peer new
+    → Does old (Own (CutSession session)) (with_frames Nothing []) new
+cut_does old new session peer d =
+    alone_does old new (Own (CutSession session)) Nothing [] (record { put = refl; closed = refl; over = refl }) d.step
+    refl refl
 
-pub frames_does : (old new : Served) (peer count : ℕ) (answer : Answer)
-    → Answers old (Own (TakeFrames peer count)) answer new
-    → Does old (Own (TakeFrames peer count))
-    (record { answer = answer; entries = []; frames = []; shut = []; ended = [] }) new
-frames_does old new peer count answer d =
-    alone_does old new (Own (TakeFrames peer count)) answer []
-    (λ won. record { put = refl; closed = refl; over = refl }) refl d
+pub frames_does : (old new : Served) (peer count : ℕ) (frames : List Frame)
+    → FramesStep old peer count frames new
+    → Does old (Own (TakeFrames peer count)) (with_frames (TakenFrames frames) []) new
+frames_does old new peer count frames d =
+    alone_does old new (Own (TakeFrames peer count)) (TakenFrames frames) []
+    (record { put = refl; closed = refl; over = refl }) d.step (ap TakenFrames d.answered) refl
 
-pub receive_does : (old new : Served) (frame : Frame) (answer : Answer)
-    → Answers old (Receive frame) answer new
-    → Does old (Receive frame) (record { answer = answer; entries = []; frames = []; shut = []; ended = [] }) new
-receive_does old new frame answer d =
-    alone_does old new (Receive frame) answer [] (λ won. record { put = refl; closed = refl; over = refl }) refl d
+pub receive_does : (old new : Served) (frame : Frame) (received : Received)
+    → ReceiveStep old frame received new
+    → Does old (Receive frame) (with_frames (told_of_received received) []) new
+receive_does old new frame received d =
+    alone_does old new (Receive frame) (told_of_received received) []
+    (record { put = refl; closed = refl; over = refl }) d.step d.answered refl
 
 pub accept_does : (old new : Served) (session : ℕ) (info : Info)
     → AcceptStep old session info new
-    → Does old (Own Accept)
-    (record { answer = OnSession session; entries = []; frames = route.Info info ∷ []; shut = []; ended = [] }) new
+    → Does old (Own Accept) (with_frames (OnSession session) (route.Info info ∷ [])) new
 accept_does old new session info d =
     alone_does old new (Own Accept) (OnSession session) (route.Info info ∷ [])
-    (λ won. record { put = refl; closed = refl; over = refl }) (ap (λ i. route.Info i ∷ []) d.sent)
-    (accept_answers old new session info d)
+    (record { put = refl; closed = refl; over = refl }) d.step (ap OnSession d.answered)
+    (ap (λ i. route.Info i ∷ []) d.sent)
 
 -- ---- a snapshot for whoever greets
 
@@ -103,14 +100,7 @@ pub info_does : (old new : Served) (session : ℕ) (info : Info) (instead_of : O
     ≡ option_map (λ q. snapshot_to old.server old.node.hub q info.inc) (peer_by_name old.server info.server_name)
     → InfoStep old session info instead_of connect new
     → Does old (OnInfo session info)
-    (record {
-      answer = Kept instead_of;
-      entries = [];
-      frames = route.Connect connect ∷ map route.Numbered (option_to_list snapshot);
-      shut = [];
-      ended = [];
-    })
-    new
+    (with_frames (Kept instead_of) (route.Connect connect ∷ map route.Numbered (option_to_list snapshot))) new
 info_does old new session info instead_of connect snapshot is d =
     let least = seen_name old.server old.node info.server_name in
     let free = map_none node_fault.Session
@@ -121,8 +111,8 @@ info_does old new session info instead_of connect snapshot is d =
     let sent = greeted old.server info.server_name old.node.hub info.inc snapshot greets.peer is in
     alone_does old new (OnInfo session info) (Kept instead_of)
     (route.Connect connect ∷ map route.Numbered (option_to_list snapshot))
-    (λ won. record { put = refl; closed = refl; over = refl }) (λ k. route.Connect (d.sent k) ∷ sent k)
-    (info_answers old new session info instead_of connect d)
+    (record { put = refl; closed = refl; over = refl }) d.step (ap Kept d.instead)
+    (λ k. route.Connect (d.sent k) ∷ sent k)
 
 pub connect_does : (old new : Served) (session : ℕ) (connect : Connect) (instead_of : Option ℕ)
     (snapshot : Option Frame)
@@ -130,14 +120,7 @@ pub connect_does : (old new : Served) (session : ℕ) (connect : Connect) (inste
     ≡ option_map (λ q. snapshot_to old.server old.node.hub q connect.inc) (peer_by_name old.server connect.server_name)
     → ConnectStep old session connect instead_of new
     → Does old (OnConnect session connect)
-    (record {
-      answer = Kept instead_of;
-      entries = [];
-      frames = map route.Numbered (option_to_list snapshot);
-      shut = [];
-      ended = [];
-    })
-    new
+    (with_frames (Kept instead_of) (map route.Numbered (option_to_list snapshot))) new
 connect_does old new session connect instead_of snapshot is d =
     let least = seen_name old.server old.node connect.server_name in
     let free = map_none node_fault.Session
@@ -147,5 +130,4 @@ connect_does old new session connect instead_of snapshot is d =
     connect_greets old.server old.node.sessions (session_at session old.node.sessions.standing) connect least free in
     let sent = greeted old.server connect.server_name old.node.hub connect.inc snapshot greets.peer is in
     alone_does old new (OnConnect session connect) (Kept instead_of) (map route.Numbered (option_to_list snapshot))
-    (λ won. record { put = refl; closed = refl; over = refl }) sent
-    (connect_answers old new session connect instead_of d)
+    (record { put = refl; closed = refl; over = refl }) d.step (ap Kept d.instead) sent

@@ -1,7 +1,8 @@
 -- What the calls of a server put and close, as the outcome of its step.
-use Rattle.std.proofs.Common.{◌≡◌, ℕ, Bool, true, false, not, cond, List, [], ◌∷◌, length, ◌-◌, Option, Some, None, sym, ap, subst, ◌∙◌, refl}
+use Rattle.std.proofs.Common.{◌≡◌, ℕ, Bool, true, false, not, cond, List, [], ◌∷◌, ◌-◌, Option, Some, None, sym, ap, subst, ◌∙◌, refl}
 use Rattle.std.specs.Prelude.{option_to_list}
 use Rattle.std.proofs.lemmas.Option.{none-some, same_Some}
+use Rattle.outbox.specs.Views.{Written}
 use Rattle.client_frames.specs.ErrTexts.{err_line}
 use Rattle.client_frames.specs.Frames.{reply_line}
 use Rattle.client_frames.specs.declared.err_texts.ErrText.{ErrText}
@@ -13,28 +14,30 @@ use Rattle.subj.specs.declared.keys.Key.{Key}
 use Rattle.subj.specs.Servers.{ServerIdentity}
 use Rattle.sub_table.specs.declared.Subscription.{Subscription}
 use Rattle.route_values.specs.declared.frames.RouteFrame.{RouteFrame}
-use Rattle.shard_core.specs.Answers.{IsTold}
+use Rattle.shard_core.specs.Answers.{IsTold, answer_of}
 use Rattle.shard_core.specs.Lines.{first_of}
-use Rattle.shard_core.specs.ShardSteps.{shard_answer, shut_by, ended_of, answer_fits, sub_called, subscribe_answer, claim_answer}
+use Rattle.shard_core.specs.ShardSteps.{shard_answer, shut_by, ended_of, answer_fits, claim_answer}
 use Rattle.shard_core.specs.Shards.{State}
 use Rattle.shard_core.specs.Owed.{slow_consumer, candidate_of}
 use Rattle.shard_core.specs.Puts.{put_by, put_by_claim, put_line}
 use Rattle.shard_core.specs.declared.calls.Begun.{Begun}
 use Rattle.shard_core.specs.declared.calls.Placed.{Placed}
+use Rattle.shard_core.specs.declared.calls.Subscribed.{Subscribed}
+use Rattle.shard_core.specs.declared.calls.Subscribed.TheVariants.{New, Same}
 use Rattle.node_parts.specs.declared.lines.Claimed.{Claimed}
 use Rattle.node_parts.specs.declared.lines.Claimed.TheVariants as code
-use Rattle.node_law.specs.Answers.{Answer, Nothing, Began, told_of_shard, told_at}
+use Rattle.node_law.specs.Answers.{Answer, Attached, Nothing, TakenEntries, node_answer, told_of_shard, told_at}
 use Rattle.node_law.specs.AsLaw.{Part, part_at, part_if, part_of}
 use Rattle.node_law.specs.Events.{NodeEvent, Own, OfConn, AtShard}
 use Rattle.node_law.specs.declared.events.ConnEvent.{ConnEvent}
 use Rattle.node_law.specs.declared.events.ConnEvent.TheVariants.{Subscribe, Unsubscribe, Reply, SetHeaders, Shut, Detach, Take}
 use Rattle.node_law.specs.declared.events.ShardWork.TheVariants.{Attach, Begin, Claim, End, DropJob, DrainShard}
 use Rattle.node_core.specs.declared.node.stepping.ReplyPuts.{ReplyPuts}
-use Rattle.node_core.specs.Outcome.{Answers, Does, Outcome, claim_outcome, ended_told, entries_told, put_at, reply_outcome, shut_at, ended_at}
-use Rattle.node_core.specs.Served.{Served, ConnStep, BeginStep, ClaimStep, IsToldAt, IsClaimTold, IsClaimToldAt, answer_at, work_answer, is_won}
+use Rattle.node_core.specs.Outcome.{Does, Outcome, begin_outcome, claim_outcome, ended_told, entries_told, put_at, reply_outcome, shut_at, ended_at, with_frames}
+use Rattle.node_core.specs.Served.{Served, DoesStep, ConnStep, WorkStep, DropStep, BeginStep, ClaimStep, IsToldAt, IsClaimTold, IsClaimToldAt, answer_at, work_answer, is_won}
 use Rattle.node_law.specs.State.{ShardWithJobs, Node}
 use Rattle.node_law.specs.Steps.{conn_line, conn_place, conn_event, shard_line, work_event, begin_of, drop_of, node_frames}
-use Rattle.node_core.proofs.Outcomes.Answered.{told_begin, told_claim_at}
+use Rattle.node_core.proofs.Outcomes.Answered.{told_begin, told_claim_at, told_drop_at, told_work}
 
 -- ---- connections
 
@@ -78,6 +81,20 @@ conn_does old new conn event answer entries shut puts shuts d =
       told = λ k. record { answer = told k; entries = put k; frames = []; shut = closed k; ended = ended k };
     }
 
+pub subscribe_does : (old new : Served) (conn : ℕ) (key : Key) (sid : List ℕ) (done : Subscribed)
+    → ConnStep old conn (Subscribe key sid) (answer_of done) new
+    → Does old (Own (OfConn conn (Subscribe key sid))) (with_frames (told_of_shard (answer_of done)) []) new
+subscribe_does old new conn key sid (New sub) d =
+    conn_does old new conn (Subscribe key sid) (of_shard.Opened sub) [] [] (λ line e. refl) (λ line e. refl) d
+subscribe_does old new conn key sid Same d =
+    conn_does old new conn (Subscribe key sid) of_shard.AlreadyOpen [] [] (λ line e. refl) (λ line e. refl) d
+
+pub take_does : (old new : Served) (conn count : ℕ) (entries : List Written)
+    → ConnStep old conn (Take count) (of_shard.Taken entries) new
+    → Does old (Own (OfConn conn (Take count))) (with_frames (TakenEntries entries) []) new
+take_does old new conn count entries d =
+    conn_does old new conn (Take count) (of_shard.Taken entries) [] [] (λ line e. refl) (λ line e. refl) d
+
 pub unsubscribe_does : (old new : Served) (conn : ℕ) (sid : List ℕ) (max : Option ℕ) (ended : List SubId)
     → ConnStep old conn (Unsubscribe sid max) (of_shard.Unsubscribed ended) new
     → Does old (Own (OfConn conn (Unsubscribe sid max)))
@@ -87,8 +104,7 @@ unsubscribe_does old new conn sid max ended d =
 
 pub set_headers_does : (old new : Served) (conn : ℕ) (on : Bool)
     → ConnStep old conn (SetHeaders on) of_shard.HeadersSet new
-    → Does old (Own (OfConn conn (SetHeaders on)))
-    (record { answer = Nothing; entries = []; frames = []; shut = []; ended = [] }) new
+    → Does old (Own (OfConn conn (SetHeaders on))) (with_frames Nothing []) new
 set_headers_does old new conn on d =
     conn_does old new conn (SetHeaders on) of_shard.HeadersSet [] [] (λ line e. refl) (λ line e. refl) d
 
@@ -251,15 +267,7 @@ begin_at place (Some line) begun e = record {
 
 pub begin_does : (old new : Served) (shard : ℕ) (begun : Begun)
     → BeginStep true old shard begun new
-    → Does old (Own (AtShard shard Begin))
-    (record {
-      answer = Began begun.given (length begun.closed.items);
-      entries = begun.put.items;
-      frames = [];
-      shut = begun.closed.items;
-      ended = begun.ended.items;
-    })
-    new
+    → Does old (Own (AtShard shard Begin)) (begin_outcome begun) new
 begin_does old new shard begun d =
     let p = begin_at (shard - 1) (shard_line old.node shard) begun d.told in
     let told = told_begin true (shard_line old.node shard) begun d.told in
@@ -339,93 +347,56 @@ claim_does old new shard index claimed d =
 
 -- ---- where nothing is put and nothing closes
 
-pub record Quiet (server : ServerIdentity) (a : Node) (event : NodeEvent) (won : Bool) : Type 0 where
-  pub put : [] ≡ put_at (part_of server a event won)
-  pub closed : [] ≡ shut_at (part_of server a event won)
-  pub over : [] ≡ ended_at (part_of server a event won)
+pub record Quiet (server : ServerIdentity) (a : Node) (event : NodeEvent) : Type 0 where
+  pub put : [] ≡ put_at (part_of server a event false)
+  pub closed : [] ≡ shut_at (part_of server a event false)
+  pub over : [] ≡ ended_at (part_of server a event false)
 
--- with these frames
+-- the answer, with these frames
 pub alone_does : (old new : Served) (event : NodeEvent) (answer : Answer) (frames : List RouteFrame)
-    → ((won : Bool) → Quiet old.server old.node event won)
+    → Quiet old.server old.node event
+    → DoesStep old event false new
+    → answer ≡ node_answer old.server old.node event false
     → frames ≡ node_frames old.server old.node event
-    → Answers old event answer new
-    → Does old event (record { answer = answer; entries = []; frames = frames; shut = []; ended = [] }) new
-alone_does old new event answer frames quiet sent d =
-    let q = quiet d.won in
-    let told = d.told in
-    record {
-      won = d.won;
-      step = d.step;
-      told = λ k. record { answer = told k; entries = q.put k; frames = sent k; shut = q.closed k; ended = q.over k };
-    }
-
-subscribe_ends : (s : State) (sub : Option Subscription) → [] ≡ ended_of (subscribe_answer s sub)
-subscribe_ends s None = refl
-subscribe_ends s (Some sub) = refl
-
-quiet_subscribe : (place conn : ℕ) (key : Key) (sid : List ℕ) (o : Option ShardWithJobs)
-    → Putting place [] [] [] (part_at place (λ line. Some (of_shard.Subscribe conn key sid)) o)
-quiet_subscribe place conn key sid None = record { put = refl; closed = refl; over = refl }
-quiet_subscribe place conn key sid (Some line) = record {
-  put = refl;
-  closed = refl;
-  over = subscribe_ends line.shard (sub_called conn sid line.shard.subs);
+    → Does old event (with_frames answer frames) new
+alone_does old new event answer frames quiet step told sent = record {
+  won = false;
+  step = step;
+  told = λ k. record {
+    answer = told k;
+    entries = quiet.put k;
+    frames = sent k;
+    shut = quiet.closed k;
+    ended = quiet.over k;
+  };
 }
 
-pub subscribe_does : (old new : Served) (conn : ℕ) (key : Key) (sid : List ℕ) (answer : Answer)
-    → Answers old (Own (OfConn conn (Subscribe key sid))) answer new
-    → Does old (Own (OfConn conn (Subscribe key sid)))
-    (record { answer = answer; entries = []; frames = []; shut = []; ended = [] }) new
-subscribe_does old new conn key sid answer d =
-    let q = quiet_subscribe (conn_place old.server conn) conn key sid (conn_line old.server old.node conn) in
-    alone_does old new (Own (OfConn conn (Subscribe key sid))) answer []
-    (λ won. record { put = q.put; closed = q.closed; over = q.over }) refl d
+quiet_attach : (place : ℕ) (o : Option ShardWithJobs)
+    → Putting place [] [] [] (part_at place (work_event Attach false) o)
+quiet_attach place None = record { put = refl; closed = refl; over = refl }
+quiet_attach place (Some line) = record { put = refl; closed = refl; over = refl }
 
-quiet_take : (place conn count : ℕ) (o : Option ShardWithJobs)
-    → Putting place [] [] [] (part_at place (λ line. Some (of_shard.Take conn count)) o)
-quiet_take place conn count None = record { put = refl; closed = refl; over = refl }
-quiet_take place conn count (Some line) = record { put = refl; closed = refl; over = refl }
+pub attach_does : (old new : Served) (shard conn : ℕ)
+    → WorkStep old shard Attach false (of_shard.Attached conn) new
+    → Does old (Own (AtShard shard Attach)) (with_frames (Attached conn) []) new
+attach_does old new shard conn d =
+    let q = quiet_attach (shard - 1) (shard_line old.node shard) in
+    alone_does old new (Own (AtShard shard Attach)) (Attached conn) []
+    (record { put = q.put; closed = q.closed; over = q.over }) d.step
+    (told_work Attach false (of_shard.Attached conn) (shard_line old.node shard) d.answered) refl
 
-pub take_does : (old new : Served) (conn count : ℕ) (answer : Answer)
-    → Answers old (Own (OfConn conn (Take count))) answer new
-    → Does old (Own (OfConn conn (Take count)))
-    (record { answer = answer; entries = []; frames = []; shut = []; ended = [] }) new
-take_does old new conn count answer d =
-    let q = quiet_take (conn_place old.server conn) conn count (conn_line old.server old.node conn) in
-    alone_does old new (Own (OfConn conn (Take count))) answer []
-    (λ won. record { put = q.put; closed = q.closed; over = q.over }) refl d
+quiet_end : (place : ℕ) (o : Option ShardWithJobs) → Putting place [] [] [] (part_at place (work_event End false) o)
+quiet_end place None = record { put = refl; closed = refl; over = refl }
+quiet_end place (Some line) = record { put = refl; closed = refl; over = refl }
 
-quiet_attach : (place : ℕ) (won : Bool) (o : Option ShardWithJobs)
-    → Putting place [] [] [] (part_at place (work_event Attach won) o)
-quiet_attach place won None = record { put = refl; closed = refl; over = refl }
-quiet_attach place won (Some line) = record { put = refl; closed = refl; over = refl }
-
-pub attach_does : (old new : Served) (shard : ℕ) (answer : Answer)
-    → Answers old (Own (AtShard shard Attach)) answer new
-    → Does old (Own (AtShard shard Attach))
-    (record { answer = answer; entries = []; frames = []; shut = []; ended = [] }) new
-attach_does old new shard answer d =
-    alone_does old new (Own (AtShard shard Attach)) answer []
-    (λ won.
-    let q = quiet_attach (shard - 1) won (shard_line old.node shard) in
-    record { put = q.put; closed = q.closed; over = q.over })
-    refl d
-
-quiet_end : (place : ℕ) (won : Bool) (o : Option ShardWithJobs)
-    → Putting place [] [] [] (part_at place (work_event End won) o)
-quiet_end place won None = record { put = refl; closed = refl; over = refl }
-quiet_end place won (Some line) = record { put = refl; closed = refl; over = refl }
-
-pub end_does : (old new : Served) (shard : ℕ) (answer : Answer)
-    → Answers old (Own (AtShard shard End)) answer new
-    → Does old (Own (AtShard shard End)) (record { answer = answer; entries = []; frames = []; shut = []; ended = [] })
-    new
-end_does old new shard answer d =
-    alone_does old new (Own (AtShard shard End)) answer []
-    (λ won.
-    let q = quiet_end (shard - 1) won (shard_line old.node shard) in
-    record { put = q.put; closed = q.closed; over = q.over })
-    refl d
+pub end_does : (old new : Served) (shard : ℕ)
+    → WorkStep old shard End false of_shard.Finished new
+    → Does old (Own (AtShard shard End)) (with_frames Nothing []) new
+end_does old new shard d =
+    let q = quiet_end (shard - 1) (shard_line old.node shard) in
+    alone_does old new (Own (AtShard shard End)) Nothing []
+    (record { put = q.put; closed = q.closed; over = q.over }) d.step
+    (told_work End false of_shard.Finished (shard_line old.node shard) d.answered) refl
 
 quiet_drop_of : (place : ℕ) (line : ShardWithJobs) (hand waits : Option Job)
     → Putting place [] [] [] (part_if place line (drop_of hand waits))
@@ -433,34 +404,29 @@ quiet_drop_of place line None None = record { put = refl; closed = refl; over = 
 quiet_drop_of place line None (Some job) = record { put = refl; closed = refl; over = refl }
 quiet_drop_of place line (Some hand) waits = record { put = refl; closed = refl; over = refl }
 
-quiet_drop : (place : ℕ) (won : Bool) (o : Option ShardWithJobs)
-    → Putting place [] [] [] (part_at place (work_event DropJob won) o)
-quiet_drop place won None = record { put = refl; closed = refl; over = refl }
-quiet_drop place won (Some line) = quiet_drop_of place line line.shard.hand (first_of line.waiting)
+quiet_drop : (place : ℕ) (o : Option ShardWithJobs)
+    → Putting place [] [] [] (part_at place (work_event DropJob false) o)
+quiet_drop place None = record { put = refl; closed = refl; over = refl }
+quiet_drop place (Some line) = quiet_drop_of place line line.shard.hand (first_of line.waiting)
 
-pub drop_does : (old new : Served) (shard : ℕ) (answer : Answer)
-    → Answers old (Own (AtShard shard DropJob)) answer new
-    → Does old (Own (AtShard shard DropJob))
-    (record { answer = answer; entries = []; frames = []; shut = []; ended = [] }) new
-drop_does old new shard answer d =
-    alone_does old new (Own (AtShard shard DropJob)) answer []
-    (λ won.
-    let q = quiet_drop (shard - 1) won (shard_line old.node shard) in
-    record { put = q.put; closed = q.closed; over = q.over })
-    refl d
+pub drop_does : (old new : Served) (shard turn : ℕ)
+    → DropStep old shard turn new
+    → Does old (Own (AtShard shard DropJob)) (with_frames Nothing []) new
+drop_does old new shard turn d =
+    let q = quiet_drop (shard - 1) (shard_line old.node shard) in
+    alone_does old new (Own (AtShard shard DropJob)) Nothing []
+    (record { put = q.put; closed = q.closed; over = q.over }) d.step (told_drop_at (shard_line old.node shard)) refl
 
-quiet_drain : (place : ℕ) (won : Bool) (o : Option ShardWithJobs)
-    → Putting place [] [] [] (part_at place (work_event DrainShard won) o)
-quiet_drain place won None = record { put = refl; closed = refl; over = refl }
-quiet_drain place won (Some line) = record { put = refl; closed = refl; over = refl }
+quiet_drain : (place : ℕ) (o : Option ShardWithJobs)
+    → Putting place [] [] [] (part_at place (work_event DrainShard false) o)
+quiet_drain place None = record { put = refl; closed = refl; over = refl }
+quiet_drain place (Some line) = record { put = refl; closed = refl; over = refl }
 
-pub drain_shard_does : (old new : Served) (shard : ℕ) (answer : Answer)
-    → Answers old (Own (AtShard shard DrainShard)) answer new
-    → Does old (Own (AtShard shard DrainShard))
-    (record { answer = answer; entries = []; frames = []; shut = []; ended = [] }) new
-drain_shard_does old new shard answer d =
-    alone_does old new (Own (AtShard shard DrainShard)) answer []
-    (λ won.
-    let q = quiet_drain (shard - 1) won (shard_line old.node shard) in
-    record { put = q.put; closed = q.closed; over = q.over })
-    refl d
+pub drain_shard_does : (old new : Served) (shard : ℕ)
+    → WorkStep old shard DrainShard false of_shard.Drains new
+    → Does old (Own (AtShard shard DrainShard)) (with_frames Nothing []) new
+drain_shard_does old new shard d =
+    let q = quiet_drain (shard - 1) (shard_line old.node shard) in
+    alone_does old new (Own (AtShard shard DrainShard)) Nothing []
+    (record { put = q.put; closed = q.closed; over = q.over }) d.step
+    (told_work DrainShard false of_shard.Drains (shard_line old.node shard) d.answered) refl

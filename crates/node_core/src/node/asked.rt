@@ -1,10 +1,10 @@
 //! What a server is asked by, lent: why it is refused, and its step; and what is looked up of a server.
 
-ghost use Rattle.std.specs.Prelude.{◌≡◌};
+ghost use Rattle.std.specs.Prelude.{◌≡◌, []};
 ghost use Rattle.subj.specs.Answers.{IsAnswered};
 ghost use Rattle.node_law.specs.Events.{Own, OnInfo, OnConnect, Receive};
-ghost use Rattle.node_core.specs.Outcome.{Does, did_of};
-ghost use Rattle.node_core.specs.Served.{refusal};
+ghost use Rattle.node_core.specs.Outcome.{Does, did_of, with_frames};
+ghost use Rattle.node_core.specs.Served.{refusal, told_of_received};
 ghost use Rattle.node_core.specs.InCode.{result_in_code};
 ghost use Rattle.node_law.specs.Steps.{shard_line};
 ghost use Rattle.std.specs.Option.{option_copied};
@@ -21,8 +21,19 @@ use claim_race::Race;
 use node_law::NodeFault;
 use node_parts::{Received, ShardWithJobs, place_of_shard};
 use route_values::Numbered;
+use std::alloc::Global;
 use sub_table::SubTable;
 use subj::{Failure, PubId, ServerIdentity};
+
+/// What a server did that took a frame in so. Takes no memory.
+fn did_of_receive(alloc: Global, received: Received) -> Did
+    ensures { did_of result ≡ with_frames (told_of_received received) [] }
+{
+    match received {
+        Received::Routed(turn) => Did::answer_alone(alloc, Answer::Routed(turn)),
+        Received::Heard(mark) => Did::answer_alone(alloc, Answer::Heard(mark)),
+    }
+}
 
 impl<T: SubTable, R: Race> Node<T, R> {
     /// Who it is.
@@ -61,17 +72,14 @@ impl<T: SubTable, R: Race> Node<T, R> {
     }
 
     /// Takes a frame of a peer.
-    #[tactic(auto, using(crate::proofs::Outcomes::Answered::receive_answers, crate::proofs::Outcomes::Sending::receive_does))]
+    #[tactic(auto, using(crate::proofs::Outcomes::Sending::receive_does))]
     fn did_receive(&mut self, frame: &Numbered) -> Result<Did, Failure<NodeFault>>
         ensures { IsAnswered (refusal self.old (Receive frame.now))
             (λ did. Does self.old (Receive frame.now) (did_of did) self.new) (self.new ≡ self.old)
             result }
     {
-        let answer = match self.receive(frame)? {
-            Received::Routed(turn) => Answer::Routed(turn),
-            Received::Heard(mark) => Answer::Heard(mark),
-        };
-        Ok(Did::answer_alone(self.alloc, answer))
+        let received = self.receive(frame)?;
+        Ok(did_of_receive(self.alloc, received))
     }
 
     /// The step of an event whose parts are lent.

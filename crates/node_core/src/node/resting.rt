@@ -7,15 +7,29 @@ ghost use Rattle.node_law.specs.Events.{Own, Publish};
 ghost use Rattle.node_core.specs.Served.{refusal};
 ghost use Rattle.std.specs.List.{list_all};
 ghost use Rattle.hub_core.specs.Settled.{has_few_names as are_few};
-ghost use Rattle.node_law.specs.Settled.{is_node_settled, is_peer_settled, has_room_in};
+ghost use Rattle.node_law.specs.Settled.{is_line_settled, is_node_settled, is_peer_settled, has_room_in};
 
 use super::{Node, of_hub};
 use claim_race::Race;
 use hub_core::PublishPlan;
 use node_law::NodeFault;
-use node_parts::finished_by;
+use node_parts::{ShardWithJobs, finished_by};
 use sub_table::SubTable;
 use subj::{ConnId, Failure, Message, Pub, Subject};
+
+/// Whether no job waits or is in hand at any of the lines, and the hub was told of all openings and closings.
+fn are_settled<T: SubTable>(lines: &[ShardWithJobs<T>]) -> bool
+    ensures { result ≡ list_all is_line_settled lines.now }
+{
+    lines.iter().all(|line| line.is_settled())
+}
+
+/// Whether each connection of the lines has room for the messages that its open subscriptions are due of this one, all together.
+fn have_room_for<T: SubTable>(lines: &[ShardWithJobs<T>], message: &Message) -> bool
+    ensures { result ≡ list_all (has_room_in message.now) lines.now }
+{
+    lines.iter().all(|line| line.has_room_for(message))
+}
 
 impl<T: SubTable, R: Race> Node<T, R> {
     /// Whether no job waits or is in hand at any of its shards, its hub was told of all openings and closings and does not drain,
@@ -23,12 +37,7 @@ impl<T: SubTable, R: Race> Node<T, R> {
     pub fn is_settled(&self) -> bool
         ensures { result ≡ is_node_settled self.now.node }
     {
-        for line in &self.lines {
-            if !line.is_settled() {
-                return false;
-            }
-        }
-        self.side.hub().goes_on()
+        are_settled(&self.lines) && self.side.hub().goes_on()
     }
 
     /// Whether the other server, at this place, is known as it runs: a session with its incarnation is kept, it is up, its
@@ -50,12 +59,7 @@ impl<T: SubTable, R: Race> Node<T, R> {
     pub fn has_room_for(&self, message: &Message) -> bool
         ensures { result ≡ list_all (has_room_in message.now) self.now.node.lines }
     {
-        for line in &self.lines {
-            if !line.has_room_for(message) {
-                return false;
-            }
-        }
-        true
+        have_room_for(&self.lines, message)
     }
 
     /// What a publish owes: [`Hub::plan_publish`](hub_core::Hub::plan_publish). It changes nothing. Refused as

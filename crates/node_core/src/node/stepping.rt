@@ -4,15 +4,17 @@ ghost use Rattle.std.specs.Prelude.{◌≡◌, ◌≤◌, ◌+◌, ◌∷◌, []
 ghost use Rattle.client_frames.specs.ErrTexts.{err_line};
 ghost use Rattle.client_frames.specs.Frames.{reply_line as line_of_reply};
 ghost use Rattle.route_values.specs.declared.frames.RouteFrame.TheVariants.{Numbered as NumberedFrame, Connect as ConnectFrame};
+ghost use Rattle.shard_core.specs.Answers.{answer_of as answer_of_subscribe};
 ghost use Rattle.shard_core.specs.Owed.{slow_consumer};
 ghost use Rattle.shard_core.specs.Puts.{put_line};
 ghost use Rattle.subj.specs.Answers.{IsAnswered};
-ghost use Rattle.node_law.specs.Events.{Own, OfConn, AtShard, OnInfo, OnConnect, Publish, Collect, Drain, Accept, Receive};
-ghost use Rattle.node_law.specs.declared.events.ConnEvent.TheVariants.{Unsubscribe, Reply, SetHeaders, Shut, Detach, Subscribe};
-ghost use Rattle.node_law.specs.declared.events.ShardWork.TheVariants.{Begin, Claim};
-ghost use Rattle.node_core.specs.Outcome.{Does, did_of, Answers, claim_outcome, reply_outcome, told_of_claim};
+ghost use Rattle.node_law.specs.Answers.{Collected, told_of_shard};
+ghost use Rattle.node_law.specs.Events.{Own, OfConn, AtShard, OnInfo, OnConnect, Publish, Collect, Drain, Dial, Accept, CutSession, TakeFrames};
+ghost use Rattle.node_law.specs.declared.events.ConnEvent.TheVariants.{Subscribe, Unsubscribe, Reply, SetHeaders, Shut, Detach, Take};
+ghost use Rattle.node_law.specs.declared.events.ShardWork.TheVariants.{Attach, Begin, Claim, End, DropJob, DrainShard};
+ghost use Rattle.node_core.specs.Outcome.{Does, did_of, with_frames, begin_outcome, claim_outcome, reply_outcome};
 ghost use Rattle.node_core.specs.Served.{refusal};
-ghost use Rattle.node_core.specs.InCode.{answer_of, result_in_code, event_of, own_event_of};
+ghost use Rattle.node_core.specs.InCode.{result_in_code, event_of, own_event_of};
 ghost use Rattle.hub_core.specs.Chosen.{publication_by};
 ghost use Rattle.node_law.specs.Steps.{node_frames};
 
@@ -20,15 +22,15 @@ use super::{Node, of_hub};
 use crate::answers::Answer;
 use crate::did::Did;
 use crate::event_ref::lend;
-use crate::refused::{Refused, as_refused};
+use crate::refused::Refused;
 use claim_race::Race;
 use client_frames::{ErrText, ReplyFrame, reply_line};
 use node_law::{ConnEvent, NodeEvent, NodeFault, OwnEvent, ShardWork};
-use node_parts::{Claimed, Received, finished_by, place_of_shard};
+use node_parts::{Claimed, CollectResult, place_of_shard};
 use outbox::Entry;
 use route_session::SessionId;
 use route_values::{Numbered, RouteConnect, RouteFrame, RouteInfo};
-use shard_core::{Closed, Placed, Subscribed};
+use shard_core::{Begun, Closed, Placed, Subscribed};
 use std::alloc::{AllocError, Global};
 use std::collections::VecDeque;
 use sub_table::SubTable;
@@ -94,6 +96,27 @@ fn did_of_reply(alloc: Global, puts: ReplyPuts, closed: Closed) -> Did
     }
     let none = Vec::new(alloc);
     Did::of_shard(alloc, Answer::Nothing, answer, none, closed.ended)
+}
+
+/// What a server did that answered a subscribe so. Takes no memory.
+fn did_of_subscribe(alloc: Global, done: Subscribed) -> Did
+    ensures { did_of result ≡ with_frames (told_of_shard (answer_of_subscribe done)) [] }
+{
+    match done {
+        Subscribed::New(sub) => Did::answer_alone(alloc, Answer::Opened(sub)),
+        Subscribed::Same => Did::answer_alone(alloc, Answer::AlreadyOpen),
+    }
+}
+
+/// What a server did that began a job so. Takes no memory.
+fn did_of_begin(alloc: Global, begun: Begun) -> Did
+    ensures { did_of result ≡ begin_outcome begun }
+{
+    let answer = Answer::Began {
+        placed: begun.given,
+        shut: begun.closed.len(),
+    };
+    Did::of_shard(alloc, answer, begun.put, begun.closed, begun.ended)
 }
 
 /// A list of one.
@@ -251,8 +274,38 @@ impl<T: SubTable, R: Race> Node<T, R> {
         Ok(Did::of_shard(alloc, Answer::Nothing, entries, shut, ended))
     }
 
+    /// Opens a subscription, with copies of the key and of the id.
+    #[tactic(auto, using(crate::proofs::Outcomes::Told::subscribe_does))]
+    fn did_subscribe(
+        &mut self,
+        conn: ConnId,
+        key: &Key,
+        sid: &Sid,
+    ) -> Result<Did, Failure<NodeFault>>
+        requires { refusal self.old (Own (OfConn conn (Subscribe key.now sid.now))) ≡ None }
+        ensures { IsAnswered (refusal self.old (Own (OfConn conn (Subscribe key.now sid.now))))
+            (λ did.
+            Does self.old (Own (OfConn conn (Subscribe key.now sid.now))) (did_of did) self.new)
+            (self.new ≡ self.old) result }
+    {
+        let key = key.try_clone(self.alloc)?;
+        let sid = sid.try_clone(self.alloc)?;
+        let done = self.subscribe(conn, key, sid)?;
+        Ok(did_of_subscribe(self.alloc, done))
+    }
+
+    /// Takes the first entries that wait for a connection.
+    #[tactic(auto, using(crate::proofs::Outcomes::Told::take_does))]
+    fn did_take(&mut self, conn: ConnId, count: usize) -> Result<Did, Failure<NodeFault>>
+        ensures { IsAnswered (refusal self.old (Own (OfConn conn (Take count))))
+            (λ did. Does self.old (Own (OfConn conn (Take count))) (did_of did) self.new)
+            (self.new ≡ self.old) result }
+    {
+        let entries = self.take(conn, count)?;
+        Ok(Did::answer_alone(self.alloc, Answer::TakenEntries(entries)))
+    }
+
     /// The step of an event of a connection.
-    #[tactic(auto, using(crate::proofs::Outcomes::Told::subscribe_does, crate::proofs::Outcomes::Told::take_does, crate::proofs::Outcomes::Answered::conn_answers))]
     fn did_of_conn(&mut self, conn: ConnId, event: &ConnEvent) -> Result<Did, Failure<NodeFault>>
         ensures { IsAnswered (refusal self.old (Own (OfConn conn event.now)))
             (λ did. Does self.old (Own (OfConn conn event.now)) (did_of did) self.new)
@@ -262,19 +315,13 @@ impl<T: SubTable, R: Race> Node<T, R> {
             return Err(Failure::Refused(fault));
         }
         match event {
+            ConnEvent::Subscribe { key, sid } => self.did_subscribe(conn, key, sid),
             ConnEvent::Unsubscribe { sid, max } => self.did_unsubscribe(conn, sid, *max),
             ConnEvent::Reply { frame } => self.did_reply(conn, frame),
             ConnEvent::SetHeaders { on } => self.did_set_headers(conn, *on),
             ConnEvent::Shut { text } => self.did_shut(conn, *text),
             ConnEvent::Detach => self.did_detach(conn),
-            ConnEvent::Subscribe { key, sid } => {
-                let answer = self.answer_of_subscribe(conn, key, sid)?;
-                Ok(Did::answer_alone(self.alloc, answer))
-            }
-            ConnEvent::Take { count } => {
-                let entries = self.take(conn, *count)?;
-                Ok(Did::answer_alone(self.alloc, Answer::TakenEntries(entries)))
-            }
+            ConnEvent::Take { count } => self.did_take(conn, *count),
         }
     }
 }
@@ -289,13 +336,8 @@ impl<T: SubTable, R: Race> Node<T, R> {
             (λ did. Does self.old (Own (AtShard shard Begin)) (did_of did) self.new)
             (self.new ≡ self.old) result }
     {
-        let alloc = self.alloc;
         let begun = self.begin(shard, true)?;
-        let answer = Answer::Began {
-            placed: begun.given,
-            shut: begun.closed.len(),
-        };
-        Ok(Did::of_shard(alloc, answer, begun.put, begun.closed, begun.ended))
+        Ok(did_of_begin(self.alloc, begun))
     }
 
     /// Claims a queue name of the job in hand.
@@ -311,8 +353,56 @@ impl<T: SubTable, R: Race> Node<T, R> {
         Ok(did_of_claim(alloc, puts, claimed))
     }
 
+    /// A new connection of the shard.
+    #[tactic(auto, using(crate::proofs::Outcomes::Told::attach_does))]
+    fn did_attach(&mut self, shard: u64) -> Result<Did, Failure<NodeFault>>
+        ensures { IsAnswered (refusal self.old (Own (AtShard shard Attach)))
+            (λ did. Does self.old (Own (AtShard shard Attach)) (did_of did) self.new)
+            (self.new ≡ self.old) result }
+    {
+        let conn = self.attach(shard)?;
+        Ok(Did::answer_alone(self.alloc, Answer::Attached(conn)))
+    }
+
+    /// The shard finishes the turn in hand.
+    #[tactic(auto, using(crate::proofs::Outcomes::Told::end_does))]
+    fn did_end(&mut self, shard: u64) -> Result<Did, Failure<NodeFault>>
+        ensures { IsAnswered (refusal self.old (Own (AtShard shard End)))
+            (λ did. Does self.old (Own (AtShard shard End)) (did_of did) self.new)
+            (self.new ≡ self.old) result }
+    {
+        if let Err(fault) = self.end(shard) {
+            return Err(Failure::Refused(fault));
+        }
+        Ok(Did::answer_alone(self.alloc, Answer::Nothing))
+    }
+
+    /// The shard drops a job.
+    fn did_drop_job(&mut self, shard: u64) -> Result<Did, Failure<NodeFault>>
+        ensures { IsAnswered (refusal self.old (Own (AtShard shard DropJob)))
+            (λ did. Does self.old (Own (AtShard shard DropJob)) (did_of did) self.new)
+            (self.new ≡ self.old) result }
+    {
+        if let Err(fault) = self.drop_job(shard) {
+            return Err(Failure::Refused(fault));
+        }
+        Ok(Did::answer_alone(self.alloc, Answer::Nothing))
+    }
+
+    /// The shard takes no subscription any more.
+    #[tactic(auto, using(crate::proofs::Outcomes::Told::drain_shard_does))]
+    fn did_drain_shard(&mut self, shard: u64) -> Result<Did, Failure<NodeFault>>
+        ensures { IsAnswered (refusal self.old (Own (AtShard shard DrainShard)))
+            (λ did. Does self.old (Own (AtShard shard DrainShard)) (did_of did) self.new)
+            (self.new ≡ self.old) result }
+    {
+        if let Err(fault) = self.drain_shard(shard) {
+            return Err(Failure::Refused(fault));
+        }
+        Ok(Did::answer_alone(self.alloc, Answer::Nothing))
+    }
+
     /// The step of what a shard is asked to do.
-    #[tactic(auto, using(crate::proofs::Outcomes::Told::attach_does, crate::proofs::Outcomes::Told::end_does, crate::proofs::Outcomes::Told::drop_does, crate::proofs::Outcomes::Told::drain_shard_does))]
     fn did_of_shard(&mut self, shard: u64, work: ShardWork) -> Result<Did, Failure<NodeFault>>
         ensures { IsAnswered (refusal self.old (Own (AtShard shard work)))
             (λ did. Does self.old (Own (AtShard shard work)) (did_of did) self.new)
@@ -322,244 +412,34 @@ impl<T: SubTable, R: Race> Node<T, R> {
             return Err(Failure::Refused(fault));
         }
         match work {
+            ShardWork::Attach => self.did_attach(shard),
             ShardWork::Begin => self.did_begin(shard),
             ShardWork::Claim { index } => self.did_claim(shard, index),
-            ShardWork::Attach | ShardWork::End | ShardWork::DropJob | ShardWork::DrainShard => {
-                let answer = self.answer_of_shard(shard, work)?;
-                Ok(Did::answer_alone(self.alloc, answer))
-            }
+            ShardWork::End => self.did_end(shard),
+            ShardWork::DropJob => self.did_drop_job(shard),
+            ShardWork::DrainShard => self.did_drain_shard(shard),
         }
     }
 }
 
-/// What a claim answers.
-fn answer_of_claim(claimed: Claimed) -> Answer
-    ensures { answer_of result ≡ told_of_claim claimed }
+// ---- peers and sessions
+
+/// What a server did that told its peers so, by these frames. Takes no memory.
+fn did_of_told(alloc: Global, told: CollectResult, frames: Vec<RouteFrame>) -> Did
+    ensures { did_of result
+        ≡ with_frames (Collected told.changes told.frames told.cut.items) frames.items }
 {
-    match claimed {
-        Claimed::Nobody => Answer::Nobody,
-        Claimed::Lost => Answer::Lost,
-        Claimed::Won { sub, .. } => Answer::Won(sub),
-    }
-}
-
-impl<T: SubTable, R: Race> Node<T, R> {
-    /// Opens a subscription, with copies of the key and of the id.
-    #[tactic(auto, using(crate::proofs::Outcomes::Answered::conn_answers))]
-    fn answer_of_subscribe(
-        &mut self,
-        conn: ConnId,
-        key: &Key,
-        sid: &Sid,
-    ) -> Result<Answer, Failure<NodeFault>>
-        ensures { IsAnswered (refusal self.old (Own (OfConn conn (Subscribe key.now sid.now))))
-            (λ answer.
-            Answers self.old (Own (OfConn conn (Subscribe key.now sid.now))) (answer_of answer)
-            self.new)
-            (self.new ≡ self.old) result }
-    {
-        if let Some(fault) = self.subscribe_fault(conn, key, sid) {
-            return Err(Failure::Refused(fault));
-        }
-        let key = key.try_clone(self.alloc)?;
-        let sid = sid.try_clone(self.alloc)?;
-        match self.subscribe(conn, key, sid)? {
-            Subscribed::New(sub) => Ok(Answer::Opened(sub)),
-            Subscribed::Same => Ok(Answer::AlreadyOpen),
-        }
-    }
-
-    /// The step of an event of a connection.
-    #[tactic(auto, using(crate::proofs::Outcomes::Answered::conn_answers))]
-    fn answer_of_conn(
-        &mut self,
-        conn: ConnId,
-        event: &ConnEvent,
-    ) -> Result<Answer, Failure<NodeFault>>
-        ensures { IsAnswered (refusal self.old (Own (OfConn conn event.now)))
-            (λ answer. Answers self.old (Own (OfConn conn event.now)) (answer_of answer) self.new)
-            (self.new ≡ self.old) result }
-    {
-        match event {
-            ConnEvent::Subscribe { key, sid } => self.answer_of_subscribe(conn, key, sid),
-            ConnEvent::Unsubscribe { sid, max } => match self.unsubscribe(conn, sid, *max) {
-                Ok(_) => Ok(Answer::Nothing),
-                Err(fault) => Err(Failure::Refused(fault)),
-            },
-            ConnEvent::Reply { frame } => {
-                self.reply(conn, frame)?;
-                Ok(Answer::Nothing)
-            }
-            ConnEvent::SetHeaders { on } => match self.set_headers(conn, *on) {
-                Ok(()) => Ok(Answer::Nothing),
-                Err(fault) => Err(Failure::Refused(fault)),
-            },
-            ConnEvent::Shut { text } => {
-                self.shut(conn, *text)?;
-                Ok(Answer::Nothing)
-            }
-            ConnEvent::Detach => {
-                self.detach(conn)?;
-                Ok(Answer::Nothing)
-            }
-            ConnEvent::Take { count } => {
-                let entries = self.take(conn, *count)?;
-                Ok(Answer::TakenEntries(entries))
-            }
-        }
-    }
-
-    /// The step of what a shard is asked to do.
-    #[tactic(auto, using(crate::proofs::Outcomes::Answered::work_answers, crate::proofs::Outcomes::Answered::claim_answers, crate::proofs::Outcomes::Answered::begin_answers, crate::proofs::Outcomes::Answered::drop_answers))]
-    fn answer_of_shard(&mut self, shard: u64, work: ShardWork) -> Result<Answer, Failure<NodeFault>>
-        ensures { IsAnswered (refusal self.old (Own (AtShard shard work)))
-            (λ answer. Answers self.old (Own (AtShard shard work)) (answer_of answer) self.new)
-            (self.new ≡ self.old) result }
-    {
-        match work {
-            ShardWork::Attach => {
-                let conn = self.attach(shard)?;
-                Ok(Answer::Attached(conn))
-            }
-            ShardWork::Begin => {
-                let begun = self.begin(shard, false)?;
-                Ok(Answer::Began {
-                    placed: begun.given,
-                    shut: begun.closed.len(),
-                })
-            }
-            ShardWork::Claim { index } => {
-                let claimed = self.claim(shard, index, false)?;
-                Ok(answer_of_claim(claimed))
-            }
-            ShardWork::End => match self.end(shard) {
-                Ok(()) => Ok(Answer::Nothing),
-                Err(fault) => Err(Failure::Refused(fault)),
-            },
-            ShardWork::DropJob => match self.drop_job(shard) {
-                Ok(_) => Ok(Answer::Nothing),
-                Err(fault) => Err(Failure::Refused(fault)),
-            },
-            ShardWork::DrainShard => match self.drain_shard(shard) {
-                Ok(()) => Ok(Answer::Nothing),
-                Err(fault) => Err(Failure::Refused(fault)),
-            },
-        }
-    }
-
-    /// The step of an event of its own.
-    #[tactic(auto, using(crate::proofs::Outcomes::Answered::publish_answers, crate::proofs::Outcomes::Answered::collect_answers, crate::proofs::Outcomes::Answered::drain_answers, crate::proofs::Outcomes::Answered::dial_answers, crate::proofs::Outcomes::Answered::accept_answers, crate::proofs::Outcomes::Answered::cut_answers, crate::proofs::Outcomes::Answered::frames_answers))]
-    fn own_answer(&mut self, event: &OwnEvent) -> Result<Answer, Failure<NodeFault>>
-        ensures { IsAnswered (refusal self.old (Own (own_event_of event.now)))
-            (λ answer. Answers self.old (Own (own_event_of event.now)) (answer_of answer) self.new)
-            (self.new ≡ self.old) result }
-    {
-        match event {
-            OwnEvent::OfConn { conn, event } => self.answer_of_conn(*conn, event),
-            OwnEvent::AtShard { shard, work } => self.answer_of_shard(*shard, *work),
-            OwnEvent::Publish {
-                conn,
-                publication,
-                word,
-            } => {
-                let issued = self.publish(*conn, publication, *word)?;
-                Ok(Answer::Issued {
-                    turn: issued.turn,
-                    frames: issued.frames,
-                })
-            }
-            OwnEvent::Collect { shard } => {
-                let told = self.collect(*shard)?;
-                Ok(Answer::Collected {
-                    changes: told.changes,
-                    frames: told.frames,
-                    cut: told.cut,
-                })
-            }
-            OwnEvent::Drain => {
-                let told = self.drain()?;
-                Ok(Answer::Collected {
-                    changes: told.changes,
-                    frames: told.frames,
-                    cut: told.cut,
-                })
-            }
-            OwnEvent::Dial { peer } => Ok(Answer::OnSession(self.dial(*peer)?)),
-            OwnEvent::Accept => Ok(Answer::OnSession(self.accept()?.0)),
-            OwnEvent::CutSession { session } => match self.cut(*session) {
-                Ok(_) => Ok(Answer::Nothing),
-                Err(fault) => Err(Failure::Refused(fault)),
-            },
-            OwnEvent::TakeFrames { peer, count } => {
-                Ok(Answer::TakenFrames(self.take_frames(*peer, *count)?))
-            }
-        }
-    }
-
-    /// The step of an `INFO` on a session.
-    #[tactic(auto, using(crate::proofs::Outcomes::Answered::info_answers))]
-    fn answer_of_info(
-        &mut self,
-        session: SessionId,
-        info: &RouteInfo,
-    ) -> Result<Answer, Failure<NodeFault>>
-        ensures { IsAnswered (refusal self.old (OnInfo session info.now))
-            (λ answer. Answers self.old (OnInfo session info.now) (answer_of answer) self.new)
-            (self.new ≡ self.old) result }
-    {
-        let (kept, _) = self.info(session, info)?;
-        Ok(Answer::Kept {
-            instead_of: kept.instead_of,
-        })
-    }
-
-    /// The step of a `CONNECT` on a session.
-    #[tactic(auto, using(crate::proofs::Outcomes::Answered::connect_answers))]
-    fn answer_of_connect(
-        &mut self,
-        session: SessionId,
-        connect: &RouteConnect,
-    ) -> Result<Answer, Failure<NodeFault>>
-        ensures { IsAnswered (refusal self.old (OnConnect session connect.now))
-            (λ answer. Answers self.old (OnConnect session connect.now) (answer_of answer) self.new)
-            (self.new ≡ self.old) result }
-    {
-        let kept = self.connect(session, connect)?;
-        Ok(Answer::Kept {
-            instead_of: kept.instead_of,
-        })
-    }
-
-    /// The step of an event.
-    #[tactic(auto, using(crate::proofs::Outcomes::Answered::receive_answers, crate::proofs::Outcomes::Answered::info_answers, crate::proofs::Outcomes::Answered::connect_answers))]
-    fn answer(&mut self, event: &NodeEvent) -> Result<Answer, Failure<NodeFault>>
-        ensures { IsAnswered (refusal self.old (event_of event.now))
-            (λ answer. Answers self.old (event_of event.now) (answer_of answer) self.new)
-            (self.new ≡ self.old) result }
-    {
-        match event {
-            NodeEvent::Own(event) => self.own_answer(event),
-            NodeEvent::Receive(frame) => match self.receive(frame)? {
-                Received::Routed(turn) => Ok(Answer::Routed(turn)),
-                Received::Heard(mark) => Ok(Answer::Heard(mark)),
-            },
-            NodeEvent::OnInfo { session, info } => self.answer_of_info(*session, info),
-            NodeEvent::OnConnect { session, connect } => {
-                self.answer_of_connect(*session, connect)
-            }
-        }
-    }
-
-    /// Makes the step of an event, and gives its answer alone: [`Node::step`] without copies of what is put
-    /// and of what closes. It is refused as the call for the event is, and by the first cause; want of
-    /// memory comes only where there is no cause. Both leave all as it was.
-    pub fn apply(&mut self, event: &NodeEvent) -> Result<Answer, Refused>
-        ensures { IsAnswered (refusal self.old (event_of event.now))
-            (λ answer. Answers self.old (event_of event.now) (answer_of answer) self.new)
-            (self.new ≡ self.old) (result_in_code result) }
-    {
-        as_refused(self.answer(event))
-    }
+    let CollectResult {
+        changes,
+        frames: count,
+        cut,
+    } = told;
+    let answer = Answer::Collected {
+        changes,
+        frames: count,
+        cut,
+    };
+    Did::of_frames(alloc, answer, frames)
 }
 
 /// A `CONNECT` to send and the snapshot that waits behind it, in a list that has no items and two places.
@@ -606,12 +486,7 @@ impl<T: SubTable, R: Race> Node<T, R> {
             IsAnswered (refusal self.now e)
             (λ frames. frames.items ≡ node_frames self.now.server self.now.node e) ⊤ result }
     {
-        let count = self.lines.len();
-        let finished = finished_by(&self.race, count as u64);
-        let plan = match self.side.plan_publish(conn, publication, word, &finished) {
-            Ok(plan) => plan,
-            Err(fault) => return of_hub(Err(fault)),
-        };
+        let plan = self.plan_publish(conn, publication, word)?;
         let Ok(frames) = route_frames(self.alloc, plan.frames) else {
             return Err(Failure::OutOfMemory);
         };
@@ -669,8 +544,86 @@ impl<T: SubTable, R: Race> Node<T, R> {
         Ok(Did::of_frames(self.alloc, Answer::OnSession(session), frames))
     }
 
+    /// Publishes for a connection, with copies of the frames that are put for peers.
+    #[tactic(auto, using(crate::proofs::Outcomes::Sending::publish_does))]
+    fn did_publish(
+        &mut self,
+        conn: ConnId,
+        publication: &Pub,
+        word: u64,
+    ) -> Result<Did, Failure<NodeFault>>
+        ensures { let e = Own (Publish (publication_by conn publication.now word)) in
+            IsAnswered (refusal self.old e) (λ did. Does self.old e (did_of did) self.new)
+            (self.new ≡ self.old) result }
+    {
+        let frames = self.publish_frames(conn, publication, word)?;
+        let issued = self.publish(conn, publication, word)?;
+        let answer = Answer::Issued {
+            turn: issued.turn,
+            frames: issued.frames,
+        };
+        Ok(Did::of_frames(self.alloc, answer, frames))
+    }
+
+    /// Counts what the subscriptions of a shard have changed, with copies of the frames that tell the peers.
+    #[tactic(auto, using(crate::proofs::Outcomes::Sending::collect_does))]
+    fn did_collect(&mut self, shard: u64) -> Result<Did, Failure<NodeFault>>
+        ensures { IsAnswered (refusal self.old (Own (Collect shard)))
+            (λ did. Does self.old (Own (Collect shard)) (did_of did) self.new)
+            (self.new ≡ self.old) result }
+    {
+        let frames = self.collect_frames(shard)?;
+        let told = self.collect(shard)?;
+        Ok(did_of_told(self.alloc, told, frames))
+    }
+
+    /// Drains, with copies of the frames that tell the peers.
+    #[tactic(auto, using(crate::proofs::Outcomes::Sending::drain_does))]
+    fn did_drain(&mut self) -> Result<Did, Failure<NodeFault>>
+        ensures { IsAnswered (refusal self.old (Own Drain))
+            (λ did. Does self.old (Own Drain) (did_of did) self.new) (self.new ≡ self.old) result }
+    {
+        let frames = self.drain_frames()?;
+        let told = self.drain()?;
+        Ok(did_of_told(self.alloc, told, frames))
+    }
+
+    /// Dials a server.
+    #[tactic(auto, using(crate::proofs::Outcomes::Sending::dial_does))]
+    fn did_dial(&mut self, peer: usize) -> Result<Did, Failure<NodeFault>>
+        ensures { IsAnswered (refusal self.old (Own (Dial peer)))
+            (λ did. Does self.old (Own (Dial peer)) (did_of did) self.new)
+            (self.new ≡ self.old) result }
+    {
+        let session = self.dial(peer)?;
+        Ok(Did::answer_alone(self.alloc, Answer::OnSession(session)))
+    }
+
+    /// Ends a session.
+    #[tactic(auto, using(crate::proofs::Outcomes::Sending::cut_does))]
+    fn did_cut(&mut self, session: SessionId) -> Result<Did, Failure<NodeFault>>
+        ensures { IsAnswered (refusal self.old (Own (CutSession session)))
+            (λ did. Does self.old (Own (CutSession session)) (did_of did) self.new)
+            (self.new ≡ self.old) result }
+    {
+        if let Err(fault) = self.cut(session) {
+            return Err(Failure::Refused(fault));
+        }
+        Ok(Did::answer_alone(self.alloc, Answer::Nothing))
+    }
+
+    /// Takes the first frames that wait for a peer.
+    #[tactic(auto, using(crate::proofs::Outcomes::Sending::frames_does))]
+    fn did_take_frames(&mut self, peer: usize, count: usize) -> Result<Did, Failure<NodeFault>>
+        ensures { IsAnswered (refusal self.old (Own (TakeFrames peer count)))
+            (λ did. Does self.old (Own (TakeFrames peer count)) (did_of did) self.new)
+            (self.new ≡ self.old) result }
+    {
+        let frames = self.take_frames(peer, count)?;
+        Ok(Did::answer_alone(self.alloc, Answer::TakenFrames(frames)))
+    }
+
     /// The step of an event of its own.
-    #[tactic(auto, using(crate::proofs::Outcomes::Sending::publish_does, crate::proofs::Outcomes::Sending::collect_does, crate::proofs::Outcomes::Sending::drain_does, crate::proofs::Outcomes::Sending::dial_does, crate::proofs::Outcomes::Sending::cut_does, crate::proofs::Outcomes::Sending::frames_does))]
     pub(super) fn own_did(&mut self, event: &OwnEvent) -> Result<Did, Failure<NodeFault>>
         ensures { IsAnswered (refusal self.old (Own (own_event_of event.now)))
             (λ did. Does self.old (Own (own_event_of event.now)) (did_of did) self.new)
@@ -683,26 +636,13 @@ impl<T: SubTable, R: Race> Node<T, R> {
                 conn,
                 publication,
                 word,
-            } => {
-                let frames = self.publish_frames(*conn, publication, *word)?;
-                let answer = self.own_answer(event)?;
-                Ok(Did::of_frames(self.alloc, answer, frames))
-            }
-            OwnEvent::Collect { shard } => {
-                let frames = self.collect_frames(*shard)?;
-                let answer = self.own_answer(event)?;
-                Ok(Did::of_frames(self.alloc, answer, frames))
-            }
-            OwnEvent::Drain => {
-                let frames = self.drain_frames()?;
-                let answer = self.own_answer(event)?;
-                Ok(Did::of_frames(self.alloc, answer, frames))
-            }
+            } => self.did_publish(*conn, publication, *word),
+            OwnEvent::Collect { shard } => self.did_collect(*shard),
+            OwnEvent::Drain => self.did_drain(),
+            OwnEvent::Dial { peer } => self.did_dial(*peer),
             OwnEvent::Accept => self.did_accept(),
-            OwnEvent::Dial { .. } | OwnEvent::CutSession { .. } | OwnEvent::TakeFrames { .. } => {
-                let answer = self.own_answer(event)?;
-                Ok(Did::answer_alone(self.alloc, answer))
-            }
+            OwnEvent::CutSession { session } => self.did_cut(*session),
+            OwnEvent::TakeFrames { peer, count } => self.did_take_frames(*peer, *count),
         }
     }
 

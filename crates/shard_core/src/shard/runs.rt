@@ -1,12 +1,14 @@
 //! A run of jobs, delivered at once.
 
-ghost use Rattle.std.specs.Prelude.{◌≡◌, true, IfOk, OnErr, None};
+ghost use Rattle.std.specs.Prelude.{◌≡◌, ◌<◌, ◌≤◌, true, length, slice_get, take, IfOk, IfSome, OnErr, None, Some};
+ghost use Rattle.subj.specs.declared.jobs.Job.{Job};
+ghost use Rattle.subj.specs.declared.limits.TheConstants.{MAX_COUNTER};
 ghost use Rattle.shard_core.specs.Held.{IsLeft};
 ghost use Rattle.shard_core.specs.Runs.{DeliversRun};
-ghost use Rattle.shard_core.specs.RunSteps.{GoesWith};
+ghost use Rattle.shard_core.specs.RunSteps.{GoesWith, GoTogether};
 
 use super::{Shard, drop_candidate};
-use crate::run_delivery::{jobs_together, may_begin, put_run};
+use crate::run_delivery::{Together, jobs_together, may_begin, put_run};
 use job_block::{JobSlice, LentJob};
 use std::alloc::AllocError;
 use sub_table::SubTable;
@@ -19,6 +21,29 @@ impl<T: SubTable> Shard<T> {
         ensures begins { result ≡ true → GoesWith first.now first.now }
     {
         self.hand.is_none() && first.turn() > self.tried && may_begin(first)
+    }
+
+    /// The next run: how many of these jobs, from the first on, go together, and the turn of the last of them. None where no run may begin with the
+    /// first.
+    fn next_run(&self, jobs: &JobSlice<'_>) -> Option<Together>
+        ensures hand { IfSome result (λ run. self.now.state.hand ≡ None) }
+        ensures some { IfSome result (λ run. 0 < run.count) }
+        ensures few { IfSome result (λ run. run.count ≤ length jobs.now) }
+        ensures together { IfSome result (λ run.
+            (first : Job)
+            → slice_get jobs.now 0 ≡ Some first
+            → GoTogether first self.now.state.finished run.last (take run.count jobs.now)) }
+        ensures most { IfSome result (λ run. run.last ≤ MAX_COUNTER) }
+    {
+        if jobs.is_empty() {
+            return None;
+        }
+        let first = jobs.get(0);
+        if !self.may_begin_run(&first) {
+            return None;
+        }
+        let run = jobs_together(self.finished, &first, jobs);
+        (run.count > 0).then_some(run)
     }
 
     /// Delivers as many of these jobs at once as it can, from the first on, and finishes their turns: each receiver gets all its
@@ -34,24 +59,16 @@ impl<T: SubTable> Shard<T> {
         ensures err { OnErr result (IsLeft self.old self.new) }
     {
         drop_candidate(&mut self.conns, &mut self.chosen);
-        if jobs.is_empty() {
+        let Some(run) = self.next_run(jobs) else {
             return Ok(0);
-        }
+        };
         let first = jobs.get(0);
-        if !self.may_begin_run(&first) {
-            return Ok(0);
-        }
-        let run = jobs_together(self.finished, &first, jobs);
-        if run.count == 0 {
-            return Ok(0);
-        }
-        let (conns, openings) = (&mut self.conns, &mut self.openings);
         let together = jobs.first(run.count);
         if !put_run(
             &mut self.run,
-            conns,
+            &mut self.conns,
             &mut self.dirty_conns,
-            openings,
+            &mut self.openings,
             self.shard,
             &first,
             &together,

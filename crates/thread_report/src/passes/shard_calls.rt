@@ -16,7 +16,7 @@ ghost use Rattle.node_threads.specs.declared.shard_entries.ShardTold.TheVariants
 ghost use Rattle.thread_node.specs.Refusing.{AnswersAt, has_conn, has_shard};
 
 use super::Pass;
-use super::answers::{of_shard, part_list, part_reply};
+use super::answers::{of_shard, part_reply};
 use crate::asking::{conn_event_if, event_if, reply_event, subscribe_event, unsubscribe_event};
 use crate::shard_lists::ShardLists;
 use client_frames::{ErrText, ReplyFrame};
@@ -214,10 +214,7 @@ impl<N: NodeName> Pass<N> {
         let done = locked.shut(conn, text);
         drop(locked);
         let event = conn_event_if(keep, conn, ConnEvent::Shut { text });
-        let told = told_shut(&done);
-        let (ended, done) = part_list(self.alloc, done);
-        let lists = ShardLists::of_closed(self.alloc, ended);
-        self.tell_lists(keep, shard, place, event, of_shard(told, lists), done)
+        self.tell_closed(keep, shard, place, event, told_shut(&done), done)
     }
 
     /// [`ThreadNode::detach`]; [`Pass::lists`] has the subscriptions that closed. May wait.
@@ -239,10 +236,7 @@ impl<N: NodeName> Pass<N> {
         let done = locked.detach(conn);
         drop(locked);
         let event = conn_event_if(keep, conn, ConnEvent::Detach);
-        let told = told_detached(&done);
-        let (ended, done) = part_list(self.alloc, done);
-        let lists = ShardLists::of_closed(self.alloc, ended);
-        self.tell_lists(keep, shard, place, event, of_shard(told, lists), done)
+        self.tell_closed(keep, shard, place, event, told_detached(&done), done)
     }
 
     /// [`ThreadNode::take`]; [`Pass::lists`] has the entries. May wait.
@@ -265,10 +259,7 @@ impl<N: NodeName> Pass<N> {
         let done = locked.take(conn, count);
         drop(locked);
         let event = conn_event_if(keep, conn, ConnEvent::Take { count });
-        let told = told_taken(&done);
-        let (entries, done) = part_list(self.alloc, done);
-        let lists = ShardLists::of_taken(self.alloc, entries);
-        self.tell_lists(keep, shard, place, event, of_shard(told, lists), done)
+        self.tell_taken(keep, shard, place, event, told_taken(&done), done)
     }
 
     /// [`ThreadNode::drop_job`]. May wait.

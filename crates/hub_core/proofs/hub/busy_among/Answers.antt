@@ -1,14 +1,22 @@
-use Rattle.std.proofs.Common.{◌≡◌, Some, sym, ◌∙◌}
-use Rattle.std.specs.Prelude.{position}
-use Rattle.claim_race.specs.Race.{is_behind}
-use Rattle.std.proofs.lemmas.List.Quantifiers.{position-Some}
-use Rattle.hub_core.proofs.Steps.Behind.{some_busy}
+use Rattle.std.proofs.Common.{false, sym, ◌∙◌}
+use Rattle.hub_core.proofs.Steps.Behind.{looked_at, some_busy_at, none_busy_from}
 use Rattle.hub_core.proofs.hub.busy_among.Goals as goal
 
-pub returns-in-Some : goal.returns-in-Some
-returns-in-Some c =
-    let some : position (is_behind c.args.issued) c.args.finished.now ≡ Some c.in-Some.place =
-    sym c.first_behind.ensures ∙ c.in-Some.is in
-    sym (some_busy c.args.issued c.args.finished.now c.in-Some.place c.index-finished-place.result some
-    c.index-finished-place.is
-    (position-Some (is_behind c.args.issued) c.args.finished.now c.in-Some.place c.index-finished-place.result some).0)
+pub loop-place-preserved : goal.loop-place-preserved
+loop-place-preserved c =
+    sym
+    (looked_at c.args.issued c.args.finished.now c.loop-place.place c.index-finished-place.result false
+    c.loop-place-test.true c.index-finished-place.is (sym c.is_late.ensures ∙ c.if-is_late.false))
+    ∙ c.loop-place.invariant
+
+pub returns-then-is_late : goal.returns-then-is_late
+returns-then-is_late c =
+    sym
+    (some_busy_at c.args.issued c.args.finished.now c.loop-place.place c.index-finished-place.result
+    c.loop-place-test.true c.index-finished-place.is (sym c.is_late.ensures ∙ c.if-is_late.true)
+    c.loop-place.invariant)
+
+pub returns : goal.returns
+returns c =
+    sym (none_busy_from c.args.issued c.args.finished.now c.loop-place.place c.loop-place-test.false
+    c.loop-place.invariant)

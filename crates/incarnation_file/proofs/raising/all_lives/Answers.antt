@@ -1,4 +1,4 @@
-use Rattle.std.proofs.Common.{rules, ap, length, sym, ◌∙◌}
+use Rattle.std.proofs.Common.{rules}
 use Rattle.incarnation_file.proofs.Rising.{risen_at_first, risen_to}
 use Rattle.incarnation_file.proofs.raising.all_lives.Goals as goal
 

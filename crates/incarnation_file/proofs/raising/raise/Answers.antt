@@ -1,5 +1,4 @@
-use Rattle.std.proofs.Common.{◌≡◌, ◌<◌, ◌∙◌, Some, refl, ap, inl, inr, ⊎_elim, arith}
-use Rattle.incarnation_file.specs.Line.{line_of}
+use Rattle.std.proofs.Common.{◌<◌, ◌∙◌, Some, refl, ap, inl, inr, ⊎_elim, arith}
 use Rattle.incarnation_file.proofs.Keeps.{next_is_more, still_kept, then_told}
 use Rattle.incarnation_file.proofs.raising.raise.Goals as goal
 

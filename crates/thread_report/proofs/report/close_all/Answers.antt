@@ -9,8 +9,8 @@ use Rattle.thread_report.proofs.report.close_all.Goals as goal
 pub close_race-requires-clause-shards : goal.close_race-requires-clause-shards
 close_race-requires-clause-shards g c =
     let race = g.N.NodeName.race in
-    let seats = c.in_ok-seats.seats.items in
-    let tapes = map (λ entries. entries.items) c.in_ok-seats.worked.items in
+    let seats = c.in_ok-seats.field-0.seats.items in
+    let tapes = map (λ entries. entries.items) c.in_ok-seats.field-0.tapes.items in
     let issued = c.args.state.issued in
     let closed = c.in_ok-seats.ensures.1 issued c.into_parts-seat.ensures.lines in
     subst (λ (r : RaceId). AllOf r seats) (sym c.requires.race) (all_of race issued c.args.keep seats tapes closed)
@@ -18,8 +18,8 @@ close_race-requires-clause-shards g c =
 pub close_race-requires-clause-each : goal.close_race-requires-clause-each
 close_race-requires-clause-each g c =
     let race = g.N.NodeName.race in
-    let seats = c.in_ok-seats.seats.items in
-    let tapes = map (λ entries. entries.items) c.in_ok-seats.worked.items in
+    let seats = c.in_ok-seats.field-0.seats.items in
+    let tapes = map (λ entries. entries.items) c.in_ok-seats.field-0.tapes.items in
     let issued = c.args.state.issued in
     let closed = c.in_ok-seats.ensures.1 issued c.into_parts-seat.ensures.lines in
     let count = c.in_ok-seats.ensures.0 ∙ c.requires.all in
@@ -28,7 +28,7 @@ close_race-requires-clause-each g c =
 
 pub returns-clause-over : goal.returns-clause-over
 returns-clause-over g c =
-    let seats = c.in_ok-seats.seats.items in
+    let seats = c.in_ok-seats.field-0.seats.items in
     let told = c.in_ok-closed.closed in
     let part = subst
     (λ (h : HubPart). IsClosed (arc_value c.args.cells) h seats told.issued told.finished told.cells.items)

@@ -10,10 +10,11 @@ pub loop-line-init : goal.loop-line-init
 loop-line-init g c = λ issued all. (
   all,
   subst (λ seats.
-      AreClosed g.N.NodeName.race issued c.args.keep seats (map (λ entries. entries.items) c.new-tapes.result.items))
-      (sym c.new-seats.ensures.items)
+      AreClosed g.N.NodeName.race issued c.args.keep seats
+      (map (λ entries. entries.items) c.new-closed.result.tapes.items))
+      (sym c.new-closed.ensures.seats)
       (subst (λ tapes. AreClosed g.N.NodeName.race issued c.args.keep [] (map (λ entries. entries.items) tapes))
-      (sym c.new-tapes.ensures.items) (closed_none g.N.NodeName.race issued c.args.keep)),
+      (sym c.new-closed.ensures.tapes) (closed_none g.N.NodeName.race issued c.args.keep)),
 )
 
 pub loop-line-preserved : goal.loop-line-preserved
@@ -28,24 +29,15 @@ loop-line-preserved g c = λ issued all.
     let seat = c.in_ok-seat.seat in
     let entries = c.in_ok-seat.entries in
     let w = c.into_inner.result in
-    let old = c.loop-line.seats.items in
-    let before = c.loop-line.tapes.items in
-    let seats : c.push_reserved-in-loop-line.new.self.items ≡ old ++ seat ∷ [] =
-    c.push_reserved-in-loop-line.ensures.items ∙ ap (λ s. s ++ seat ∷ []) c.reserve-in-loop-line.ensures.items in
+    let old = c.loop-line.closed.seats.items in
+    let before = c.loop-line.closed.tapes.items in
+    let seats : c.add.new.self.seats.items ≡ old ++ seat ∷ [] = c.in_ok-add.ensures.seats in
     let long = ap length seats ∙ length-append old (seat ∷ []) in
-    let tapes =
-    ap (map (λ l. l.items)) (c.push_reserved.ensures.items ∙ ap (λ s. s ++ entries ∷ []) c.reserve.ensures.items)
-    ∙ map_snoc (λ l. l.items) before entries in
-    let number : w.part.shard ≡ length old + 1 = omega (
-      arith,
-      e.shard,
-      c.len.ensures,
-      c.push_reserved-in-loop-line.ensures.len,
-      c.reserve-in-loop-line.ensures.len,
-      long,
-    ) in (
+    let tapes = ap (map (λ l. l.items)) c.in_ok-add.ensures.tapes ∙ map_snoc (λ l. l.items) before entries in
+    let number : w.part.shard ≡ length old + 1 =
+    omega (arith, e.shard, c.len.ensures, c.loop-line.closed.seats.ok.0) in (
       all_rest (λ l. AreFirst l.pushed issued) line rest lines,
-      subst (λ (l : List ShardShown). AreClosed race issued kept l (map (λ x. x.items) c.push_reserved.new.self.items))
+      subst (λ (l : List ShardShown). AreClosed race issued kept l (map (λ x. x.items) c.add.new.self.tapes.items))
           (sym {A = List ShardShown} seats)
           (subst (AreClosed race issued kept (old ++ seat ∷ [])) (sym tapes)
           (closed_more race issued line.pushed kept old (map (λ l. l.items) before) seat e.tape.0 entries.items w

@@ -9,4 +9,5 @@ invariant-loop-line g l =
     (issued : List Job)
     → All (λ line. AreFirst line.pushed issued) l.initial.line-iterator.a.rest.items
     → All (λ line. AreFirst line.pushed issued) l.line-iterator.a.rest.items
-    × AreClosed g.N.NodeName.race issued l.keep l.seats.items (map (λ entries. entries.items) l.tapes.items)
+    × AreClosed g.N.NodeName.race issued l.keep l.closed.seats.items
+    (map (λ entries. entries.items) l.closed.tapes.items)

@@ -1,4 +1,4 @@
-use Rattle.std.proofs.Common.{ℕ, List, get_or, ap, ◌∙◌, ◌*◌}
+use Rattle.std.proofs.Common.{ℕ, List, length, get_or, sym, ap, ◌∙◌, ◌+◌, ◌*◌, ◌≤◌, subst, arith}
 use Rattle.subj.specs.declared.limits.TheConstants.{MAX_KEYS, MAX_WEIGHT}
 use Rattle.hub_core.specs.Choice.{weights_from}
 use Rattle.hub_core.proofs.Choices.Audiences.{weights_put, total_put}
@@ -17,11 +17,16 @@ loop-place-preserved c =
     record {
       rest =
           weights_put server counts subject name peers i c.index-peers-place.result server_name
-          c.weight_at-weight.result c.loop-place.servers.items c.push.new.self.items
+          c.weight_at-weight.result c.loop-place.servers.items c.push_reserved.new.self.items
           (weights_from server counts subject name 0 peers) c.loop-place-test.true c.requires c.index-peers-place.is
-          named c.weight_at-weight.ensures.same c.in_ok-push.ensures.items c.loop-place.invariant.rest;
+          named c.weight_at-weight.ensures.same c.push_reserved.ensures.items c.loop-place.invariant.rest;
       fits =
-          total_put c.loop-place.servers.items c.push.new.self.items i (MAX_KEYS * MAX_WEIGHT)
-          (server_name, c.weight_at-weight.result) c.in_ok-push.ensures.items c.loop-place.invariant.fits
+          total_put c.loop-place.servers.items c.push_reserved.new.self.items i (MAX_KEYS * MAX_WEIGHT)
+          (server_name, c.weight_at-weight.result) c.push_reserved.ensures.items c.loop-place.invariant.fits
           c.weight_at-weight.ensures.most;
+      count = c.push_reserved.ensures.len ∙ ap (λ n. n + 1) c.loop-place.invariant.count;
+      room = subst (λ n. length peers ≤ n) (sym c.push_reserved.ensures.capacity) c.loop-place.invariant.room;
     }
+
+pub push_reserved-requires : goal.push_reserved-requires
+push_reserved-requires c = omega arith

@@ -16,7 +16,7 @@ returns-in-Some-names_alone c =
     let p = publication_by c.args.conn publication c.args.word in
     let names = c.in-Some-names_alone.names.now in
     let serves = subst (λ (subject : List ℕ). ServesAlone hub.server hub.state subject names)
-    (c.lent.ensures ∙ c.subject-subject.ensures) c.in-Some-names_alone.ensures in
+    (c.lent.ensures ∙ c.subject-subject.ensures) c.in-Some-names_alone.ensures.alone in
     let few = few_alone hub.server hub.state publication.message.subject names serves in
     subst (λ (cause : Option HubFault).
     IsAnswered {T = PublishPlan} cause (λ plan. IsPlanOf hub.server hub.state p plan.job plan.frames.items) ⊤

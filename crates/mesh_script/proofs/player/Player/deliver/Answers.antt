@@ -1,7 +1,7 @@
 use Rattle.std.proofs.Common.{ap, sym, ◌∙◌, map}
 use Rattle.cluster_world.specs.InCode.{event_of}
 use Rattle.hub_core.specs.Publishing.{Publication}
-use Rattle.settled_order.specs.Owed.{delivery}
+use Rattle.mesh_script.specs.Owed.{delivery}
 use Rattle.mesh_script.specs.Asks.{work_asks}
 use Rattle.mesh_script.proofs.Moving.{makes_failed, breaks_unmoved}
 use Rattle.mesh_script.proofs.player.Player.deliver.Goals as goal

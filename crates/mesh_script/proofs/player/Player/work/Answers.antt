@@ -3,7 +3,7 @@ use Rattle.std.proofs.lemmas.List.{at_drop_more, drop_all}
 use Rattle.cluster_world.specs.declared.events.Event.{Event}
 use Rattle.cluster_world.specs.InCode.{event_of, outcome_of}
 use Rattle.world_law.specs.Events as asked
-use Rattle.settled_order.specs.Counted.{placed_by}
+use Rattle.mesh_script.specs.Counted.{placed_by}
 use Rattle.mesh_script.specs.Asks.{work_asks}
 use Rattle.mesh_script.specs.Playing.{Moves}
 use Rattle.mesh_script.proofs.Moving.{makes_failed, makes_on, breaks_after, breaks_first, moves_on}

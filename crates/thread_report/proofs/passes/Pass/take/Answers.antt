@@ -1,29 +1,19 @@
-use Rattle.std.proofs.Common.{[], ◌∙◌, refl}
-use Rattle.std.specs.Option.{option_map}
 use Rattle.std.specs.Prelude.{length}
 use Rattle.node_law.specs.declared.events.ConnEvent.TheVariants as of_conn
 use Rattle.node_law.specs.declared.events.NodeEvent.TheVariants.{Own}
 use Rattle.node_law.specs.declared.events.OwnEvent.TheVariants as own
 use Rattle.node_threads.specs.declared.shard_entries.ShardTold.TheVariants as shard_told
-use Rattle.thread_report.specs.Owed.{by_server, failed_by}
+use Rattle.thread_report.specs.Owed.{failed_by}
 use Rattle.thread_report.specs.ShardAnswers.{taken_lists}
 use Rattle.thread_report.specs.declared.passes.CallAnswer.TheVariants.{Shard}
-use Rattle.thread_report.proofs.Telling.{list_gains, parted_told}
+use Rattle.thread_report.proofs.Telling.{list_gains_from}
 use Rattle.thread_report.proofs.passes.Pass.take.Goals as goal
 
 pub returns-clause-told : goal.returns-clause-told
 returns-clause-told g c =
     let e = Own (own.OfConn c.args.conn (of_conn.Take c.args.count)) in
-    let parted = c.part_list-entries in
-    let list = parted.result.0.items in
-    let says = c.of_shard.ensures
-    ∙ (λ k. option_map (λ t. Shard t (c.of_taken-lists.ensures k)) (c.told_taken-told.ensures k))
-    ∙ parted_told (λ list. list.items) (λ _. tt) [] (λ why. shard_told.Refused why) (λ _ l. shard_told.Taken (length l))
-    (λ t l. Shard t (taken_lists l)) c.take-done.result list parted.result.1 parted.ensures in
-    let made = c.tell_lists in
-    let told = made.ensures.told e (λ _. Shard (shard_told.Taken (length list)) (taken_lists list))
-    c.conn_event_if-event.ensures says in
-    list_gains c.keeps_tapes-keep.result g.N.NodeName.keep c.args.shard e failed_by
-    (λ _ l. Shard (shard_told.Taken (length l)) (taken_lists l)) list made.result
-    (by_server (λ _. Shard (shard_told.Taken (length list)) (taken_lists list)) made.result) c.args.self.now.calls
-    c.enter_conn.new.self.calls made.new.self.calls c.keeps_tapes-keep.ensures c.in_ok-locked.ensures.same refl told
+    let made = c.tell_taken in
+    list_gains_from c.keeps_tapes-keep.result g.N.NodeName.keep c.args.shard e failed_by
+    (λ _ l. Shard (shard_told.Taken (length l)) (taken_lists l)) made.result c.args.self.now.calls
+    c.enter_conn.new.self.calls made.new.self.calls c.keeps_tapes-keep.ensures c.in_ok-locked.ensures.same
+    (made.ensures.told e c.conn_event_if-event.ensures c.told_taken.ensures)
